@@ -11,9 +11,11 @@ import pytest
 sys.dont_write_bytecode = True
 from support import durations
 from support.options import add_options, share_of
+from support.places import is_program
 
 MEMORY = "/dev/shm"
-ROUNDS = {}
+# of what is random, so many rounds are not slow
+QUICK_ROUNDS = 3
 
 
 def pytest_addoption(parser):
@@ -27,7 +29,10 @@ def pytest_configure(config):
     if signal.getsignal(signal.SIGHUP) == signal.SIG_IGN:
         signal.signal(signal.SIGHUP, signal.SIG_DFL)
     # each worker of xdist draws a seed of its own otherwise
-    config.seed = getattr(config, "workerinput", {}).get("seed", config.option.seed)
+    given = getattr(config, "workerinput", {})
+    config.seed = given.get("seed", config.option.seed)
+    # and reads the command line again, which does not have what is set below for the controller
+    config.option.loadgroup = given.get("dist") == "loadgroup"
     config.looked, config.ended = 0, {"passed": 0, "failed": 0, "skipped": 0}
 
 
@@ -40,7 +45,7 @@ def pytest_cmdline_main(config):
 
 @pytest.hookimpl(optionalhook=True)
 def pytest_configure_node(node):
-    node.workerinput["seed"] = node.config.seed
+    node.workerinput.update(seed=node.config.seed, dist=node.config.option.dist)
 
 
 def pytest_report_header(config):
@@ -48,21 +53,23 @@ def pytest_report_header(config):
 
 
 def pytest_generate_tests(metafunc):
-    """A test that asks for `round_number` is one test for each of --rounds, or of the rounds that it is marked with."""
+    """A test that asks for `round_number` is one test for each of --rounds, or of the ROUNDS of its file. All but the
+    first of them are slow together."""
     if "round_number" in metafunc.fixturenames:
-        own = getattr(metafunc.module, "ROUNDS", 20)
-        metafunc.parametrize("round_number", range(1, (metafunc.config.option.rounds or own) + 1))
+        rounds = range(1, (metafunc.config.option.rounds or getattr(metafunc.module, "ROUNDS", 20)) + 1)
+        metafunc.parametrize("round_number", [
+            pytest.param(it, marks=pytest.mark.slow if it > QUICK_ROUNDS else ()) for it in rounds])
 
 
 def in_turn(config, items):
     """All but those that are marked as `by_turns` or `by_hand` and not asked for: by the option of that name, or the
-    first by --share, of which each test function gives its share."""
+    first by --share, of which each test function gives its share, or by --alone."""
     def is_left_out(it, marker):
         found = it.get_closest_marker(marker)
         return found and not getattr(config.option, found.args[0])
 
     chosen, shared = {it for it in items if not is_left_out(it, "by_hand")}, {}
-    for it in (it for it in items if is_left_out(it, "by_turns")):
+    for it in (it for it in items if is_left_out(it, "by_turns") and not config.option.alone):
         shared.setdefault(it.function, []).append(it)
     for those in shared.values():
         those.sort(key=lambda it: it.name)
@@ -81,7 +88,7 @@ def pytest_collection_modifyitems(config, items):
     needs = [it for it in items if "program" in getattr(it, "fixturenames", ())]
     # a worker of xdist can only let tests fail
     if needs and not config.option.collectonly and not hasattr(config, "workerinput"):
-        if not os.access(config.option.program, os.X_OK):
+        if not is_program(config.option.program):
             raise pytest.UsageError(f"{len(needs)} tests need a program: {no_program(config)}; `-k unit` asks for none")
 
 
@@ -93,7 +100,7 @@ def no_program(config):
 @pytest.fixture(scope="session")
 def program(request, pytestconfig):
     """The path of the built program."""
-    if not os.access(pytestconfig.option.program, os.X_OK):
+    if not is_program(pytestconfig.option.program):
         request.session.shouldfail = no_program(pytestconfig)
         pytest.fail(no_program(pytestconfig), pytrace=False)
     return os.path.abspath(pytestconfig.option.program)
@@ -158,7 +165,8 @@ def looked(request):
 
 def pytest_runtest_logreport(report):
     """Of the controller where there are workers: a property comes with the report of each test."""
-    SECONDS[report.nodeid] = SECONDS.get(report.nodeid, 0.0) + report.duration
+    name = durations.name_of(report.nodeid)
+    SECONDS[name] = SECONDS.get(name, 0.0) + report.duration
     if report.when == "call" or report.outcome != "passed":
         COUNTS[report.outcome] = COUNTS.get(report.outcome, 0) + 1
     if report.when == "teardown":

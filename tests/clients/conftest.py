@@ -71,7 +71,7 @@ def pip_user(person: Person) -> Person:
     return person.enter_environment(machines_python())
 
 
-@pytest.fixture(params=["python3", "debian"])
+@pytest.fixture(params=["python3", pytest.param("debian", marks=pytest.mark.slow)])
 def each_pip_user(person: Person, request: pytest.FixtureRequest) -> Person:
     """The same, and somebody with Debian's pip if that is another."""
     python = machines_python()

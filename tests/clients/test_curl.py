@@ -66,7 +66,8 @@ def test_who_may_not_is_refused(curl, packages):
 
 
 def test_what_is_not_there_is_not_found(curl):
-    curl.ask("/nowhere").tells(404, b'"name":"NoRoute"')
+    for path in ("/nowhere", "/pypi/frob/json", "/pypi"):
+        curl.ask(path).tells(404, b'"name":"NoRoute"')
     curl.ask("/simple/more/").tells(404, b'"name":"NoProject"')
     curl.ask("/files/frob/frob-9.tar.gz").tells(404, b'"name":"NoFile"')
 

@@ -10,15 +10,16 @@ from support.clients.forms import Service, form, message, sent
 from support.ports import free_port
 from support.seen import Seen
 from support.server.kept import Kept
+from support.server.waits import wait_for
 from support.serving import accepted
 
 WHEEL = "frob-{}-py3-none-any.whl"
 LARGEST = 16_777_216
 # four forms and Python, in bytes: well below what the unit allows, which counts what connections hold too
 MOST_MEMORY = 112 << 20
-# A hasty service ends a client that is silent after a second, and a form or an index after three. A bug lets it wait
-# for 12 seconds and more.
-MOST_SECONDS = 9
+# A service may be told the seconds after which it ends a form, an index and a client that is silent. A bug lets it wait
+# for more than a minute.
+MOST_SECONDS = 60
 
 
 @pytest.fixture(scope="module")
@@ -29,26 +30,27 @@ def kept_index(program, shared_folder):
         yield index
 
 
+@pytest.mark.slow
 def test_slow_and_silent_clients_are_ended_and_others_are_served(kept_index, looked):
     whole = message(form(WHEEL.format("7.0"), b"data"))
-    with Service(kept_index.port, "--at-once", "4", is_hasty=True) as service, ThreadPoolExecutor(8) as pool:
+    with Service(kept_index.port, "--at-once", "4", seconds="6 30 3") as service, ThreadPoolExecutor(8) as pool:
         silent = [pool.submit(sent, service.port, text) for text in (b"", whole[:20], whole[:-1])]
-        slow = pool.submit(sent, service.port, *(bytes([it]) for it in whole), pause=0.1)
+        slow = pool.submit(sent, service.port, *(bytes([it]) for it in whole), pause=0.3)
         service.waits_for_threads(4)
         reply, took = sent(service.port, whole)
         is_served = reply and reply[0] == 200 and took < MOST_SECONDS
         looked(is_served, Seen("one beside four silent ones", (reply, took), 200))
         ended = [it.result() for it in silent]
-        looked(all(took < MOST_SECONDS for _, took in ended), Seen("silent ones", ended, "an end after a second"))
+        looked(all(took < MOST_SECONDS for _, took in ended), Seen("silent ones", ended, "an end after some seconds"))
         looked(ended[2][0] and ended[2][0][0] == 408, Seen("a form that breaks off", ended[2], 408))
         reply, took = slow.result()
-        # it may take as long as a form and an index together; whole it would take a minute
-        looked(took < 40 and (not reply or reply[0] == 408), Seen("a slow one", (reply, took), 408))
+        # it may take as long as a form and an index together; whole it would take three minutes
+        looked(took < 2 * MOST_SECONDS and (not reply or reply[0] == 408), Seen("a slow one", (reply, took), 408))
 
 
 @pytest.mark.parametrize("way", BROKEN)
 def test_a_broken_index_is_told_and_not_waited_for(looked, way):
-    with BrokenIndex(BROKEN[way]) as broken, Service(broken.port, is_hasty=True) as service:
+    with BrokenIndex(BROKEN[way]) as broken, Service(broken.port, seconds="3 3 1") as service:
         begun = time.monotonic()
         reply = service.post(WHEEL.format("8.0"), b"data")
         took = time.monotonic() - begun
@@ -68,6 +70,7 @@ def test_an_index_that_starts_meanwhile_is_asked_again(kept_index, looked):
         looked(reply and reply[0] == 200, Seen("a form while the index starts", reply, 200))
 
 
+@pytest.mark.slow
 def test_an_index_that_stays_away_is_waited_for_some_seconds(looked):
     with Service(free_port()) as service:
         begun = time.monotonic()
@@ -75,7 +78,7 @@ def test_an_index_that_stays_away_is_waited_for_some_seconds(looked):
         took = time.monotonic() - begun
     looked(reply and reply[0] == 503 and "upload again later" in reply[1], Seen("a form", reply, 503))
     # its pauses are 7.5 seconds together
-    looked(7 < took < 30, Seen("a form", f"{took:.1f} s", "7 to 30 s"))
+    looked(7 < took < 45, Seen("a form", f"{took:.1f} s", "7 to 45 s"))
 
 
 @pytest.mark.slow
@@ -93,9 +96,8 @@ def test_silent_connections_get_no_threads(looked):
     with BrokenIndex(taking) as busy, Service(busy.port) as service, ExitStack() as peers:
         # above those that the service accepts and those that wait in the kernel, connecting takes too long
         for _ in range(60):
-            peers.enter_context(socket.create_connection(("127.0.0.1", service.port), timeout=10))
+            peers.enter_context(socket.create_connection(("127.0.0.1", service.port), timeout=60))
         service.waits_for_threads(4)
         # more would come at once
-        time.sleep(0.5)
-        _, threads = service.memory()
-        looked(threads <= 16, Seen("60 connections", threads, "16 threads at most"))
+        has_more = wait_for(lambda: service.memory()[1] > 16, seconds=2)
+        looked(not has_more, Seen("60 connections", service.memory()[1], "16 threads at most"))

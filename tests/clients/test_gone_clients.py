@@ -15,7 +15,7 @@ from support.serving import Index, sha256
 HELD = b"GET /names/frob HTTP/1.1\r\nHost: index\r\n\r\n"
 CLAIM = b'{"do":"claim","name":"frob"}'
 # how long a condition is waited for
-PATIENCE = 30
+PATIENCE = 60
 
 
 def wait_for(holds):
@@ -33,7 +33,7 @@ def has_arrived(peer):
 
 def resets(port, message):
     """Connects, sends this, and resets the connection once it has arrived."""
-    with socket.create_connection(("127.0.0.1", port), timeout=10) as peer:
+    with socket.create_connection(("127.0.0.1", port), timeout=60) as peer:
         peer.sendall(message)
         assert wait_for(lambda: has_arrived(peer))
         peer.setsockopt(socket.SOL_SOCKET, socket.SO_LINGER, struct.pack("ii", 1, 0))
@@ -44,7 +44,7 @@ def test_a_reset_in_a_head_is_told_by_one_line_and_the_next_is_served(index, loo
     status, _, body = index.ask("GET", "/names/frob")
     looked((status, body) == (200, b'{"name":"frob","state":"free"}'), Seen("/names/frob", (status, body), 200))
     line = b"index: connection: ReadFault\n"
-    looked(wait_for(index.errors) == line, Seen("standard error", index.errors(), line))
+    looked(wait_for(lambda: index.errors() == line), Seen("standard error", index.errors(), line))
 
 
 def test_a_client_that_is_gone_before_its_reply_is_told_by_one_line_and_its_request_stands(index, looked):
@@ -58,7 +58,7 @@ def test_a_client_that_is_gone_before_its_reply_is_told_by_one_line_and_its_requ
     status, _, body = index.ask("GET", "/names/frob")
     looked(status == 200 and b'"state":"held"' in body, Seen("/names/frob", (status, body), "held"))
     line = b"index: connection: WriteFault\n"
-    looked(wait_for(index.errors) == line, Seen("standard error", index.errors(), line))
+    looked(wait_for(lambda: index.errors() == line), Seen("standard error", index.errors(), line))
 
 
 def opened(index):

@@ -94,7 +94,8 @@ class Pip:
         return path
 
 
-@pytest.fixture(params=[JSON_PAGE, "text/html"], ids=["JSON", "HTML"])
+@pytest.fixture(params=[pytest.param(JSON_PAGE, id="JSON"),
+                        pytest.param("text/html", id="HTML", marks=pytest.mark.slow)])
 def pip(port, folder, packages, looked, request) -> Iterator[Pip]:
     """pip that gets pages of one type: a proxy asks for HTML in the place of what pip asks for."""
     if PIP[0] == "python3":
@@ -107,6 +108,7 @@ def test_a_source_archive_is_downloaded(pip):
     pip.downloads("frob-0.9.tar.gz", "--no-binary", ":all:", "frob")
 
 
+@pytest.mark.slow
 def test_a_source_archive_is_built(pip):
     pip.installs("import frob; print(frob.VERSION)", "0.9\n", "frob==0.9")
 

@@ -50,7 +50,7 @@ def make_dist(person, version, more="", name="eggs"):
 
 def page_with(person, project, files):
     """The page once it lists these files: nginx keeps the one before for a second."""
-    until, page = time.monotonic() + 15, ""
+    until, page = time.monotonic() + 60, ""
     while not all(f">{file}<" in page for file in files) and time.monotonic() < until:
         page = person.gate.ask("GET", f"/simple/{project}/", Accept="text/html")[2].decode()
         time.sleep(0.2)
@@ -100,15 +100,33 @@ def test_indexctl_is_served_as_it_is_built(person):
     person.looks(headers["Content-Type"] == "application/zip", "/indexctl", headers["Content-Type"], "a zip archive")
 
 
+ELSEWHERE = {"/simple/": (405, "BadMethod"), "/": (405, "BadMethod"), "/requests": (400, "BadBody")}
+
+
+@pytest.mark.parametrize("path", ELSEWHERE)
 @pytest.mark.follows(client="twine")
-def test_twine_that_uploads_to_the_pages_is_told_where_to(person):
+def test_twine_that_uploads_to_another_address_is_told_where_to(person, path):
+    status, name = ELSEWHERE[path]
     make_dist(person, "2.6")
     words = ["twine", "upload", "--verbose", "--username", "__token__", "--password", ANN, "--repository-url",
-             f"{person.url}/simple/", "dist/eggs-2.6-py3-none-any.whl"]
-    person.fails(person.run(words), "405 Method Not Allowed", "indexctl upload", "/legacy/")
-    status, headers, body = person.gate.ask("POST", "/simple/", "x")
-    person.looks((status, headers["Allow"], b'"BadMethod"' in body) == (405, "GET, HEAD", True), "POST /simple/",
+             f"{person.url}{path}", "dist/eggs-2.6-py3-none-any.whl"]
+    person.fails(person.run(words), f"HTTPError: {status} ", f'"{name}"', "indexctl upload", "/legacy/")
+    found = person.gate.ask("GET", "/files/eggs/eggs-2.6-py3-none-any.whl")[0]
+    person.looks(found == 404, "the file", found, "nothing was uploaded")
+
+
+@pytest.mark.parametrize("path", ["/simple/", "/"])
+def test_what_can_only_be_read_says_so(person, path):
+    status, headers, body = person.gate.ask("POST", path, "x")
+    person.looks((status, headers["Allow"], b'"BadMethod"' in body) == (405, "GET, HEAD", True), f"POST {path}",
                  (status, headers.items(), body), "405 with what is allowed")
+
+
+@pytest.mark.parametrize("kind", ["application/json", "application/x-www-form-urlencoded", "text/plain", ""])
+def test_a_request_goes_on_to_the_index_whatever_it_calls_itself(person, kind):
+    asked = '{"do":"set_quota","name":"eggs","quota":1073741824}'
+    status, _, body = person.gate.ask("POST", "/requests", asked, X_Index_Token=ANN, Content_Type=kind)
+    person.looks((status, b'"NotOffice"' in body) == (403, True), kind, (status, body), "a refusal by the index")
 
 
 @pytest.mark.follows("twine by its environment", client="twine")
@@ -166,6 +184,7 @@ def test_twine_uploads_with_a_token_that_has_colons(person):
     is_published(person, "ham-1.0-py3-none-any.whl", "ham-1.0.tar.gz", project="ham")
 
 
+@pytest.mark.slow
 @pytest.mark.follows("Settings of twine and flit", "twine", client="twine")
 def test_twine_uploads_a_file_of_just_16_mib(twine_user):
     """Its form is larger than that. The wheel is not packed, so its module fills it up to the last byte."""
@@ -189,6 +208,7 @@ def test_flit_publishes(person):
     is_published(person, "eggs-3.0-py3-none-any.whl", "eggs-3.0.tar.gz")
 
 
+@pytest.mark.slow
 @pytest.mark.follows("PDM publishes", client="pdm")
 def test_pdm_publishes(person):
     person.puts("pyproject.toml", '[project]\nname = "eggs"\nversion = "4.0"\n')
@@ -197,6 +217,7 @@ def test_pdm_publishes(person):
     is_published(person, "eggs-4.0-py3-none-any.whl", "eggs-4.0.tar.gz")
 
 
+@pytest.mark.slow
 @pytest.mark.follows("Poetry publishes", client="poetry")
 def test_poetry_publishes_and_is_refused_other_bytes(person):
     person.puts("pyproject.toml", POETRY.format(version="5.0"))

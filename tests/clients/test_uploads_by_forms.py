@@ -195,6 +195,7 @@ def test_a_form_is_refused_of_which_something_would_be_lost(service, forms_index
     has_none(forms_index, MALFORMED, looked)
 
 
+@pytest.mark.slow
 def test_a_form_that_breaks_off_at_any_byte_is_refused(service, forms_index, says, looked):
     for at in range(len(WHOLE) - 4):
         says(f"the first {at} of {len(WHOLE)} bytes", service.ask(WHOLE[:at]), 400)

@@ -2,10 +2,14 @@
 import ast
 import glob
 import os
+import re
+import shlex
 from concurrent.futures import ThreadPoolExecutor
 
 from support.clients.page import read_recipes
 from support.clients.world import PAGE
+from support.needed import want_command
+from support.running import run_command
 from support.seen import Seen
 
 # followed by each person, who trusts the certificate by it
@@ -32,6 +36,21 @@ def test_each_block_that_is_called_tested_has_a_test():
     recipes, _ = read_recipes(PAGE)
     tested = {name for name, it in recipes.items() if it.is_tested}
     assert tested == {*followed_blocks()} | BY_ALL
+
+
+def test_an_authority_that_is_made_as_the_page_says_is_trusted_strictly(tmp_path, looked):
+    """As Python looks at one from 3.13 on. One without `keyUsage` is refused."""
+    want_command("openssl", "openssl")
+    with open(PAGE, encoding="utf-8") as page:
+        said = shlex.split(re.search("`(openssl req [^`]+)`", page.read())[1])
+    for words, is_taken in ((said, True), (said[:said.index("-addext")], False)):
+        made = {name: f"{tmp_path}/{len(words)}{name}" for name in ("authority", "key", "server")}
+        of_new = ["-newkey", "rsa:2048", "-nodes", "-subj"]
+        run_command([*words, *of_new, "/CN=authority", "-keyout", made["key"], "-out", made["authority"]])
+        run_command([*said, *of_new, "/CN=server", "-keyout", os.devnull, "-CA", made["authority"], "-CAkey",
+                     made["key"], "-out", made["server"]])
+        ended = run_command(["openssl", "verify", "-x509_strict", "-CAfile", made["authority"], made["server"]])
+        looked((ended.returncode == 0) == is_taken, words, ended.stdout)
 
 
 def test_nginx_serves_many_at_once_without_a_complaint(world, looked):

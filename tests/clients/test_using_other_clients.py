@@ -4,34 +4,16 @@ import os
 
 import pytest
 from support.clients.person import DEBIAN, want_module
-from support.clients.sources import make_project
+from support.clients.sources import CHANGELOG, PDM, POETRY, make_project
 from support.clients.world import REASON
 
 WHEEL = "frob-1.0-py3-none-any.whl"
-# what a project has before a recipe adds the index to it
-POETRY = """[tool.poetry]
-name = "mine"
-version = "1.0"
-description = ""
-authors = []
-
-[tool.poetry.dependencies]
-python = ">=3.8"
-
-"""
-PDM = '[project]\nname = "mine"\nversion = "1.0"\nrequires-python = ">=3.8"\ndependencies = []\n\n'
 NOXFILE = """import nox
 
 @nox.session
 def mine(session):
     session.install("frob")
     session.run("python", "-c", "import frob; print(frob.VERSION)")
-"""
-CHANGELOG = """frob (0.1-1) unstable; urgency=low
-
-  * x
-
- -- A <a@packages.example>  Mon, 01 Jan 2024 00:00:00 +0000
 """
 DISTLIB = """import sys, distlib.locators
 found = distlib.locators.SimpleScrapingLocator(sys.argv[1]).get_project('frob')
@@ -52,6 +34,7 @@ def locks(person, recipe, command, file, pin):
     person.prints("1.0", words=(command, "run", "python"))
 
 
+@pytest.mark.slow
 @pytest.mark.follows("Poetry", "Poetry, a dependency", client="poetry")
 def test_poetry_locks_and_installs(person):
     person.puts("pyproject.toml", POETRY)
@@ -60,6 +43,7 @@ def test_poetry_locks_and_installs(person):
     person.gets("HTML")
 
 
+@pytest.mark.slow
 @pytest.mark.follows("Poetry", client="poetry")
 def test_poetry_locks_a_yanked_release_by_its_exact_version_and_prints_the_reason(person):
     person.puts("pyproject.toml", POETRY)
@@ -67,6 +51,7 @@ def test_poetry_locks_a_yanked_release_by_its_exact_version_and_prints_the_reaso
     person.succeeds(person.run(["poetry", "add", "--lock", "frob==1.1"]), "yanked", REASON)
 
 
+@pytest.mark.slow
 @pytest.mark.follows("PDM", "PDM, a dependency", client="pdm")
 def test_pdm_locks_and_installs(person):
     person.puts("pyproject.toml", PDM)
@@ -91,6 +76,7 @@ def test_tox_installs_what_an_environment_needs(person):
     person.gets("JSON")
 
 
+@pytest.mark.slow
 @pytest.mark.follows("nox", client="nox")
 def test_nox_installs_what_a_session_needs(person):
     """A session in an environment of its own, which nox makes with virtualenv."""

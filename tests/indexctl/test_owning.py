@@ -1,4 +1,5 @@
-"""Each command of docs/users/OWNING.md, run in the order of the page by an owner who has the settings that it shows."""
+"""Each command of docs/users/OWNING.md, run in the order of the page by an owner who has the settings that it shows,
+and those that stand between the blocks of docs/users/USING.md."""
 from __future__ import annotations
 
 import os
@@ -12,7 +13,7 @@ from support.packages import make_source
 from support.places import TOP
 from support.serving import Index
 
-PAGE = f"{TOP}/docs/users/OWNING.md"
+PAGE, USING = f"{TOP}/docs/users/OWNING.md", f"{TOP}/docs/users/USING.md"
 COMMAND = re.compile(r"`indexctl ([a-z][^`\n]*)`")
 CASE = ("case", "open", "frob", "--kind", "reuse", "--contact", "c", "--work", "w", "--why", "y")
 # what others do before a command of the page, and what the command then says
@@ -25,6 +26,9 @@ SAID = {
     "file delete frob-1.0.tar.gz": "index-uncache", "case answer frob": "", "name relinquish frob": "",
 }
 ASKS = "name relinquish", "file delete"
+# of USING, and of these what needs no token
+SAID_OF_USING = {"name claim frob": "claim frob", "status frob": "owners  ann", "files frob": "frob-1.0.tar.gz",
+                 "releases frob": "1.0"}
 
 
 def typed() -> list[str]:
@@ -64,3 +68,17 @@ def test_an_owner_does_all_that_the_page_says(by, folder, looked):
     assert_ends(by.run("who", "frob"), 0, "free")
     with open(f"{by.home}/index-record.jsonl", encoding="utf-8") as record:
         looked(sum(1 for _ in record) == 8, "the changes in the record")
+
+
+def test_what_using_names_between_its_blocks_works(by, folder, looked):
+    with open(USING, encoding="utf-8") as page:
+        found = {*COMMAND.findall(page.read())}
+    looked(found == {*SAID_OF_USING}, found)
+    ended = by.run("name", "claim", "frob", caller=None, INDEX_URL=None)
+    looked(ended.returncode == 0 and SAID_OF_USING["name claim frob"] in ended.stdout, ended.stdout)
+    assert_ends(by.run("upload", f"{folder}/dist", caller=None, INDEX_URL=None), 0)
+    os.remove(f"{by.home}/.config/index-token")
+    put(f"{by.home}/.config/indexctl.ini", f"[default]\nurl = {by.setting['INDEX_URL']}\n")
+    for text in sorted(found - {"name claim frob"}):
+        ended = by.run(*shlex.split(text), caller=None, INDEX_URL=None)
+        looked(ended.returncode == 0 and SAID_OF_USING[text] in ended.stdout, text, ended.stdout)

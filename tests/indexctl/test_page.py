@@ -10,9 +10,13 @@ from contextlib import suppress
 from dataclasses import dataclass
 
 import pytest
-from support.indexctl.browser import CONTRASTS, opened
+from indexctl import page as office_page
+from indexctl.quotas import Overview
+from support.indexctl.browser import BROKEN_WORDS, CONTRASTS, WIDTHS, opened
 from support.indexctl.control import Control, assert_ends, filled, put
 from support.indexctl.page import DRIVER, Reader, rendered, title_of
+from support.indexctl.projects import LONGEST_USER
+from support.indexctl.rows import held
 from support.indexctl.sample import CASES, MARKUP, NAMES, QUOTA, USERS, lines_of
 from support.needed import want_module
 from support.places import NGINX, SERVER, TOP
@@ -152,6 +156,24 @@ def test_a_telephone_gets_tables_with_their_heads(office, chromium):
     assert chromium.value("document.documentElement.scrollWidth") == 390
     assert ("rowheader", "Aurora-Client".lower()) in spoken and ("rowheader", "hugo") in spoken
     assert [name.split()[0] for role, name in spoken if role == "columnheader"][:3] == ["name", "full", "charge"]
+    lines = chromium.value("Array.from(document.querySelectorAll('.quotas tbody tr'), function (it) { return "
+                           "getComputedStyle(it).borderTopWidth; })")
+    assert lines[:3] == ["0px", "1px", "1px"]
+
+
+@pytest.mark.parametrize("look, most", WIDTHS)
+def test_no_word_is_broken(office, chromium, folder, look, most):
+    """Of the page, and of one of the longest user."""
+    found = Overview(True)
+    assert not list(found.look_at([held("harbor-auth", owners=[LONGEST_USER, "pipeline"], charge=990)]))
+    text = "".join(office_page.page_of("https://packages.example", found, [], 1_700_000_000))
+    path = put(f"{folder}/longest.html", text, 0o644)
+    chromium.look(**look)
+    for it, fewest in ((office.path, 500), (path, 40)):
+        chromium.go(f"file://{it}")
+        words = chromium.value(BROKEN_WORDS % most)
+        assert words["seen"] > fewest and words["found"] == []
+        assert chromium.value("document.documentElement.scrollWidth <= window.innerWidth")
 
 
 def test_what_is_due_leads_to_its_case(office, chromium):
@@ -184,7 +206,7 @@ def test_a_search_leaves_what_has_the_word(driven):
 
 
 def test_a_search_for_what_is_not_there_leaves_nothing(driven):
-    assert driven[5:] == ["0", "4"]
+    assert driven[5:] == ["0", "5"]
 
 
 def test_the_html_has_no_error_of_a_parser(office):

@@ -5,6 +5,7 @@ import json
 import os
 import shutil
 import signal
+import threading
 import time
 from dataclasses import dataclass
 from typing import Any, Dict, List
@@ -13,6 +14,7 @@ import pytest
 from support.indexctl.control import Control, Ended, assert_ends, digest, filled, line, rows_of, user_lines
 from support.indexctl.scripted import scripted, standing_of
 from support.indexctl.tables import TABLES
+from support.ports import free_port
 from support.serving import Index
 
 pytestmark = pytest.mark.xdist_group("replay")
@@ -73,10 +75,11 @@ def restored(program, shared_folder):
     folder = shared_folder
     path, record = filled(program, f"{folder}/index.db", lines_before(int(time.time()))), f"{folder}/record.jsonl"
     copy, since = shutil.copy(path, f"{folder}/copy.db"), time.strftime("%Y-%m-%dT%H:%M:%SZ", time.gmtime())
-    with Index(program, path=path) as index:
+    port = free_port()
+    with Index(program, path=path, port=port) as index:
         url = f"http://127.0.0.1:{index.port}"
         tokens = day_of_the_office(Control(folder, url, INDEX_RECORD=record))
-    before, port = tables_of(path), index.port
+    before = tables_of(path)
     with open(record, encoding="utf-8") as kept:
         text = kept.read()
     shutil.copy(copy, f"{folder}/restored.db")
@@ -226,9 +229,12 @@ def test_attempts_are_counted_once_however_often_a_record_is_replayed(replays, f
 
 @pytest.mark.parametrize("end", [signal.SIGINT, signal.SIGHUP], ids=["ctrl_c", "closed_terminal"])
 def test_a_replay_that_is_stopped_names_the_line_to_go_on_at(folder, end):
+    is_sent = threading.Event()
+
     def slow(method, path, body, _):
         if json.loads(body or b"{}").get("means") == "author":
-            time.sleep(3)
+            # the reply comes behind the signal, however busy the machine is
+            is_sent.wait(60)
         return standing_of(path) if method == "GET" else (200, "application/json", b'{"answer":"accepted"}')
     with scripted(slow) as server:
         by = Control(folder, server.url)
@@ -237,5 +243,6 @@ def test_a_replay_that_is_stopped_names_the_line_to_go_on_at(folder, end):
             while server.count("POST") < 3 and replay.poll() is None:
                 time.sleep(0.02)
             replay.send_signal(end)
-            _, errors = replay.communicate(timeout=30)
+            is_sent.set()
+            _, errors = replay.communicate(timeout=60)
     assert replay.returncode == 130 and "Go on by --from 2" in errors and "Traceback" not in errors, errors

@@ -10,9 +10,9 @@ from dataclasses import dataclass
 from typing import Any, Dict, Iterator
 
 import pytest
-from support.indexctl.browser import CONTRASTS, Page, opened
+from support.indexctl.browser import BROKEN_WORDS, CONTRASTS, WIDTHS, Page, opened
 from support.indexctl.control import Control, assert_ends, filled, put
-from support.indexctl.projects import REASON, fill_with_projects
+from support.indexctl.projects import LONGEST_USER, REASON, fill_with_projects
 from support.indexctl.sample import MARKUP, NAMES, lines_of
 from support.needed import want_module
 from support.places import NGINX, SERVER
@@ -146,7 +146,7 @@ def test_the_address_of_the_index_leads_to_the_list(site):
     status, headers, _ = site.front.ask("GET", "/")
     assert (status, headers["Location"]) == (302, f"{site.front.url}/browse/")
     assert site.front.ask("GET", "/browse")[0] == 301
-    assert site.front.ask("POST", "/", "x")[0] == 404
+    assert site.front.ask("POST", "/", "x")[0] == 405
 
 
 def test_without_the_pages_it_leads_to_the_index(program, open_folder, certificate):
@@ -318,12 +318,35 @@ def test_a_telephone_need_not_scroll_sideways(site, chromium, path):
     assert chromium.value("document.documentElement.scrollWidth") == 390
 
 
+@pytest.mark.parametrize("path", ["/browse/", FJORD, "/browse/projects/early.html"], ids=["list", "project", "owners"])
+@pytest.mark.parametrize("look, most", WIDTHS)
+def test_no_word_is_broken(site, chromium, path, look, most):
+    chromium.look(**look)
+    chromium.go(f"{site.front.url}{path}")
+    found = chromium.value(BROKEN_WORDS % most)
+    assert found["seen"] > 30 and found["found"] == []
+    assert (LONGEST_USER in text(chromium)) == (path != FJORD)
+
+
+def test_a_mark_is_one_line_beside_a_name_of_any_length(site, chromium):
+    script = """(function (mark) {
+      var name = mark.parentElement.querySelector("a");
+      return Array.from({length: 128}, function (_, at) {
+        name.textContent = "w".repeat(at + 1);
+        return mark.getClientRects().length === 1 && mark.offsetHeight < 32;
+      });
+    })(document.querySelector(".projects .tag"))"""
+    for wide in (1280, 900):
+        chromium.look(wide=wide)
+        chromium.go(f"{site.front.url}/browse/")
+        assert chromium.value(script) == [True] * 128
+
+
 def test_paper_has_all_and_no_search(site, chromium):
     chromium.look(wide=800, media="print")
     chromium.go(f"{site.front.url}/browse/")
     assert chromium.value("getComputedStyle(document.getElementById('find')).display") == "none"
     assert "Fjord.Queue" in text(chromium)
-    assert chromium.value("getComputedStyle(document.querySelector('.projects > li')).contentVisibility") == "visible"
 
 
 def test_without_a_script_all_is_there_but_the_search(site, chromium):

@@ -1,16 +1,26 @@
-"""indexctl on a terminal of 60 columns, and where there is none."""
+"""indexctl on a terminal of 60 columns and of 120, and where there is none."""
 from __future__ import annotations
 
 import re
 import time
 
 import pytest
-from support.indexctl.control import DAY, Control, assert_ends, filled, line, user_lines
+from indexctl.terminal import printable
+from support.indexctl.control import DAY, Control, assert_ends, filled, line, upload_line, user_lines
 from support.indexctl.terminal import COLUMNS, lines_of, on_terminal
 from support.serving import Index
 
 pytestmark = pytest.mark.xdist_group("terminal")
 LONG = "a-name-of-some-length-that-no-table-holds"
+WHEEL = "wide_frob-1.0-cp312-cp312-manylinux_2_17_x86_64.manylinux2014_x86_64.whl"
+# each listing, with what of its JSON it shows
+LISTINGS = {
+    "files wide-frob": "file release python yanked sha256", "releases wide-frob": "release yanked files",
+    "status wide-frob": "name state owners", "who wide-frob mine": "name state owners",
+    "owned-by ann": "name owners case",
+    "names": "name owners", "quotas": "name owners", "quota show wide-frob": "name owners",
+    "case list": "name candidate owners", "case show mine": "name kind candidate owners contact work why",
+}
 
 
 def lines_before(now):
@@ -22,6 +32,11 @@ def lines_before(now):
         yield line(now - DAY, "office", "claim", name=name)
     yield line(now, "bob", "open_case", name="mine", kind="reuse", contact="c" * 500, work="right\u202eleft",
                why="d e " * 100)
+    yield line(now, "ann", "claim", name="wide-frob")
+    for file in (WHEEL, "wide_frob-0.9.tar.gz"):
+        yield upload_line(now, "ann", file, 5)
+    reason = f"loses data: see https://a.example/{'x' * 90}"
+    yield line(now, "ann", "yank", name="wide-frob", release="1.0", reason=reason)
 
 
 @pytest.fixture(scope="module")
@@ -39,7 +54,43 @@ def test_a_table_that_is_too_wide_is_printed_in_blocks(by):
 
 def test_a_long_text_is_wrapped(by):
     status, seen = on_terminal(by, "case", "show", "mine")
-    assert status == 0 and max(map(len, lines_of(seen))) <= COLUMNS and "d e d e" in seen, seen
+    # but for a word that is too long for a line
+    lines = [it for it in lines_of(seen) if "ccc" not in it]
+    assert status == 0 and max(map(len, lines)) <= COLUMNS and "d e d e" in seen, seen
+
+
+def words_of(rows, keys):
+    """Each word of the texts at these keys."""
+    found = [row[key] for row in (rows if isinstance(rows, list) else [rows]) for key in keys]
+    texts = [text for it in found for text in (it if isinstance(it, list) else [it or ""])]
+    return {printable(word) for it in texts for word in it.split()}
+
+
+@pytest.mark.parametrize("columns", [60, 120])
+@pytest.mark.parametrize("words", LISTINGS)
+def test_a_listing_breaks_no_name_and_cuts_nothing(by, columns, words):
+    """What is too long for a line stands alone in it, and the terminal itself goes on in the next."""
+    awaited = words_of(by.rows(*words.split()), LISTINGS[words].split())
+    status, seen = on_terminal(by, *words.split(), columns=columns)
+    assert status == 0 and len(awaited) > 1
+    lines = lines_of(seen)
+    there = {word.rstrip(",") for it in lines for word in it.split()}
+    assert awaited - there == set()
+    assert not [it for it in lines if len(it) > columns and len(it.split()) > 2]
+
+
+@pytest.mark.parametrize("words", ["", "upload", "profile", "release yank"])
+@pytest.mark.parametrize("columns", [60, 120])
+def test_help_fits_the_terminal(by, columns, words):
+    status, seen = on_terminal(by, *words.split(), "--help", columns=columns)
+    widest = max(map(len, lines_of(seen)))
+    assert status == 0 and columns - 30 < widest <= columns, seen
+
+
+def test_what_is_not_so_has_no_line(by):
+    """`yanked` with nothing behind it could be read as a yank."""
+    _, seen = on_terminal(by, "files", "wide-frob")
+    assert [it.split()[0] for it in lines_of(seen) if it].count("yanked") == 1, seen
 
 
 def test_a_text_does_not_turn_the_line(by):
@@ -60,7 +111,7 @@ def test_a_terminal_without_colours_gets_none(by, setting):
 
 def test_a_terminal_shows_how_far_a_walk_has_come(by):
     _, seen = on_terminal(by, "quotas")
-    assert "names: " in seen and " of 15" in seen, seen
+    assert "names: " in seen and " of 16" in seen, seen
 
 
 def test_no_terminal_has_no_colours(by):

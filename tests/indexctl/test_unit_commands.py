@@ -1,10 +1,13 @@
 """What each command asks for, in which order, and what it asks a person first."""
 from __future__ import annotations
 
+import io
 import signal
+import sys
 
 import pytest
 from indexctl.ends import REFUSED, UNREACHED, WRONG, Stop
+from indexctl.standings import Standing
 from indexctl.names import sha256
 from indexctl.uploads import MOST_TEXT
 from support.indexctl.rows import case_of, held
@@ -41,7 +44,7 @@ def test_a_command_asks_for_what_it_says(run, words):
     assert run.asked(*words) == ASKED[words]
     asks_first = words[:2] in (("name", "relinquish"), ("file", "ban")) or "--office" in words
     assert bool(run.confirmed) == asks_first
-    assert bool(run.shown) == (words[:2] in (("file", "delete"), ("release", "yank")))
+    assert bool(run.shown) == (words[:2] in (("file", "delete"), ("release", "yank"), ("owner", "remove")))
 
 
 @pytest.mark.parametrize("words", ASKED, ids=lambda it: "_".join(it[:2]))
@@ -85,6 +88,14 @@ def test_a_new_user_gets_a_token_that_is_printed_once(run, capsys):
 def test_a_token_of_a_refused_user_is_not_printed(run, capsys):
     run.desk.refuses = {"add_user"}
     assert run("user", "add", "eve") == REFUSED and capsys.readouterr().out == ""
+
+
+def test_a_token_is_printed_before_the_next_user_is_asked_for(run, monkeypatch):
+    """Whoever interrupts then has the token of each user that was added."""
+    kept, printed = io.BytesIO(), []
+    monkeypatch.setattr(sys, "stdout", io.TextIOWrapper(kept))
+    monkeypatch.setattr(run.desk, "change_by", lambda *_: printed.append(kept.getvalue().count(b"\n")) or True)
+    assert run("user", "add", "eve", "bob") == 0 and printed == [0, 1]
 
 
 @pytest.mark.parametrize("status, said", [(UNREACHED, True), (REFUSED, False)])
@@ -240,9 +251,16 @@ def test_a_quota_is_set_from_what_the_name_has(run, size, quota):
 @pytest.mark.parametrize("words", [("quota", "set", "free", "1"), ("quota", "show", "free"), ("case", "show", "free"),
                                    ("case", "transfer", "free", "--quiet")])
 def test_a_name_that_nobody_holds_has_no_quota_and_no_case(run, words):
-    with pytest.raises(Stop, match="free is free, and has no owner, quota or case") as end:
+    with pytest.raises(Stop, match="^Nobody holds free.$") as end:
         run(*words)
     assert end.value.status == REFUSED and run.desk.asked == []
+
+
+def test_a_prohibited_name_has_no_quota(run):
+    run.names = [Standing("gone", "prohibited")]
+    with pytest.raises(Stop, match="^gone is prohibited, and has no owner, quota or case.$") as end:
+        run("quota", "show", "gone")
+    assert end.value.status == REFUSED
 
 
 def test_a_transfer_asks_a_person_with_the_owners_and_the_candidate(run):

@@ -51,8 +51,8 @@ def test_a_name_that_nobody_holds_has_no_files():
 
 def test_a_page_may_be_asked_for_fresh():
     index = FakeIndex(page(), page())
-    for is_fresh in (False, True):
-        contents.find_contents(index, "x", is_fresh)
+    for words in ((), (True,)):
+        contents.find_contents(index, "x", *words)
     assert ["fresh" in dict(it.headers)["Accept"] for it in index.asked] == [False, True]
 
 
@@ -69,6 +69,12 @@ def test_releases_are_ordered_by_pep_440():
     mixed = list(ORDERED)
     random.Random(7).shuffle(mixed)
     assert sorted(mixed, key=versions.order) == list(ORDERED)
+
+
+@pytest.mark.parametrize("form", ["{}!1.0", "{}.0", "1.0a{}", "1.0.post{}", "1.0.dev{}", "1.0+{}"])
+def test_long_numbers_are_compared_whole(form):
+    one, other = (form.format((1 << 53) + more) for more in (0, 1))
+    assert versions.order(one) < versions.order(other) and versions.order(one)[:-1] != versions.order(other)[:-1]
 
 
 def test_releases_are_ordered_as_installers_do(looked):

@@ -157,31 +157,46 @@ def test_a_moment_is_not_broken():
 
 
 def test_a_table_has_a_cell_for_each_head_and_numbers_to_sort_by():
-    table = page.table_of(["a", "b"], [["x", ("1 KiB", 1024)]])
+    table = "".join(page.table_of("k", ["a", "b"], [["x", ("1 KiB", 1024)]], "x"))
     assert re.findall('<th scope="(col|row)" role="(.*?)">(.*?)</th>', table) == [
         ("col", "columnheader", "a"), ("col", "columnheader", "b"), ("row", "rowheader", "x")]
     assert '<td role="cell" data-head="b" class="number" data-key="1024">1 KiB</td></tr>' in table
     assert table.endswith('<p class="none soft" hidden>None.</p>')
-    assert page.table_of(["a"], []) == '<p class="none soft">None.</p>'
+    assert "".join(page.table_of("k", ["a"], [], "")) == '<p class="none soft">None.</p>'
 
 
 @pytest.mark.parametrize("charge, kind, width", [(79, "", "79.0"), (80, "high", "80.0"), (94, "high", "94.0"),
                                                  (95, "top", "95.0"), (100, "top", "100.0"), (150, "top", "100.0")])
 def test_a_bar_is_coloured_from_eighty_and_from_ninety_five_percent_on(charge, kind, width):
-    part = page.quota_part(overview_of(held(charge=charge, quota=100)))
+    part = "".join(page.quota_part(overview_of(held(charge=charge, quota=100))))
     assert f'<span class="bar {kind}"><i style="width:{width}%"></i></span>{charge:.1f} %' in part
     assert f'data-key="{charge:.3f}"' in part and 'data-key="100"' in part
 
 
 def test_owners_are_listed_with_their_numbers():
-    part = page.owner_part(overview_of(held("<a>", owners=["bob"]), held("b", owners=["bob", "ann"])))
+    part = "".join(page.owner_part(overview_of(held("<a>", owners=["bob"]), held("b", owners=["bob", "ann"]))))
     assert '<span class="tag alone">&lt;a&gt;</span><span class="tag">b</span>' in part
-    assert re.findall('data-key="(.*?)"', part) == ["1", "0", "2", "1"]
+    assert re.findall('data-key="(.*?)"', part) == ["1", "0", "2", "1"] and part.index(">ann<") < part.index(">bob<")
+
+
+def test_names_that_look_alike_are_shown_with_their_owners():
+    part = "".join(page.alike_part(overview_of(held("frob", owners=["bob", "<x>"]), held("fro-b2"), held("other"))))
+    assert re.sub("<[^<>]*>", "|", part.partition("<p")[0]).split("|") == [
+        "", "", "", "", "", "fro-b2", " ", "ann", "", "", "", "frob", " ", "bob, &lt;x&gt;", "", "", "\n", "", ""]
+    assert part.count("<li data-find>") == 1 and part.endswith('<p class="none soft" hidden>None.</p>')
+    assert "".join(page.alike_part(overview_of(held("frob"), held("other")))) == '<p class="none soft">None.</p>'
+
+
+def test_of_many_names_that_look_alike_some_are_shown():
+    names = [held(f"frob-{at:02}", owners=[f"user{at}"]) for at in range(15)]
+    part = "".join(page.alike_part(overview_of(*names)))
+    assert part.count("<b>") == 12 and "<b>frob-11</b>" in part and "<span>and 3 more</span>" in part
+    assert "more" not in "".join(page.alike_part(overview_of(*names[:12])))
 
 
 def test_tiles_count_names_cases_and_quotas():
     names = [held("a", charge=80, quota=100), held("b", charge=79, quota=100, owners=["x", "y"]), held("c")]
-    text = page.page_of("https://packages.example:8443", overview_of(*names), [READY, row_at(OPENED)], OPENED)
+    text = "".join(page.page_of("https://packages.example:8443", overview_of(*names), [READY, row_at(OPENED)], OPENED))
     assert re.findall("<b>(\\d+)</b>(.*?)</li>", text) == [
         ("3", "held names"), ("2", "open cases"), ("1", "ready for a transfer"), ("1", "quotas at 80 % or above"),
         ("2", "names with one owner")]
@@ -189,7 +204,7 @@ def test_tiles_count_names_cases_and_quotas():
 
 
 def test_the_policy_has_the_digest_of_the_script():
-    text = page.page_of("https://h", quotas.Overview(), [], OPENED)
+    text = "".join(page.page_of("https://h", quotas.Overview(), [], OPENED))
     script = re.search("<script>(.*)</script>", text, re.S)[1]
     digest = base64.b64encode(hashlib.sha256(script.encode()).digest()).decode()
     assert f"script-src 'sha256-{digest}'" in html.unescape(text)
@@ -198,8 +213,8 @@ def test_the_policy_has_the_digest_of_the_script():
 def test_a_page_is_put_whole_where_everybody_reads_it(tmp_path):
     path = tmp_path / "index.html"
     path.write_text("before")
-    page.put_whole(str(path), "\u00e9")
-    assert path.read_text(encoding="utf-8") == "\u00e9" and path.stat().st_mode & 0o777 == 0o644
+    page.put_whole(str(path), ["\u00e9", "x"])
+    assert path.read_text(encoding="utf-8") == "\u00e9x" and path.stat().st_mode & 0o777 == 0o644
     assert os.listdir(tmp_path) == ["index.html"]
 
 
@@ -207,7 +222,7 @@ def test_a_page_is_on_the_disk_before_it_is_in_its_place(tmp_path, monkeypatch):
     steps, sync, replace = [], os.fsync, os.replace
     monkeypatch.setattr(os, "fsync", lambda file: steps.append("sync") or sync(file))
     monkeypatch.setattr(os, "replace", lambda *it: steps.append("replace") or replace(*it))
-    page.put_whole(str(tmp_path / "x"), "text")
+    page.put_whole(str(tmp_path / "x"), ["text"])
     assert steps == ["sync", "replace"]
 
 
@@ -217,5 +232,24 @@ def test_a_page_that_can_t_be_put_leaves_nothing_beside(tmp_path, monkeypatch):
     monkeypatch.setattr(os, "replace", fail)
     (tmp_path / "x").write_text("before")
     with pytest.raises(Stop, match="x can't be written: No space left on device. What was there stays.") as end:
-        page.put_whole(str(tmp_path / "x"), "text")
+        page.put_whole(str(tmp_path / "x"), ["text"])
     assert end.value.status == WRONG and os.listdir(tmp_path) == ["x"] and (tmp_path / "x").read_text() == "before"
+
+
+def test_a_page_that_is_interrupted_leaves_nothing_beside(tmp_path):
+    (tmp_path / "x").write_text("before")
+
+    def pieces():
+        yield "a piece"
+        raise KeyboardInterrupt
+    with pytest.raises(KeyboardInterrupt):
+        page.put_whole(str(tmp_path / "x"), pieces())
+    assert os.listdir(tmp_path) == ["x"] and (tmp_path / "x").read_text() == "before"
+
+
+@pytest.mark.parametrize("count", [1, 49, 50, 51, 100, 101])
+def test_a_table_comes_in_parts(count):
+    pieces = list(page.table_of("k", ["a"], ([f"row{at}"] for at in range(count)), range(count)))
+    assert re.findall("row[0-9]+", "".join(pieces)) == [f"row{at}" for at in range(count)]
+    assert [it.count("<tr ") for it in pieces if it.startswith("<tbody")] == [
+        min(50, count - at) for at in range(0, count, 50)]

@@ -48,7 +48,7 @@ def is_free(path):
     found = multiprocessing.Queue()
     other = multiprocessing.Process(target=try_lock, args=(path, found))
     other.start()
-    is_it = found.get(timeout=30)
+    is_it = found.get(timeout=60)
     other.join()
     return is_it
 

@@ -29,6 +29,7 @@ def test_a_token_says_where_it_is_from():
 
 def test_a_user_is_named():
     assert said("NoUser", user="bob").startswith("There is no user bob.")
+    assert said("NoUser").startswith("There is no user ...")
 
 
 @pytest.mark.parametrize("row", [{"name": "frob"}, {"file": "frob-1.0.tar.gz"}, {"name": "frob", "file": "x-1.tar.gz"}])
@@ -45,7 +46,28 @@ def test_a_quota_and_a_charge_are_told_in_words():
 
 @pytest.mark.parametrize("answer", ["OverQuota", "FilesRemain"])
 def test_who_has_to_delete_files_is_told_what_lists_them(answer):
-    assert "`indexctl files` lists them" in said(answer)
+    assert "`indexctl files frob` lists them" in said(answer, HELD if answer == "OverQuota" else FILES, name="frob")
+
+
+LISTED = {"projects": [{"name": "frob"}, {"name": "spam"}]}
+SLIPS = [({"do": "yank", "name": "forb"}, "Nobody holds forb. Did you mean `frob`?"),
+         ({"do": "add_owner", "name": "other"}, "Nobody holds other. `indexctl names` lists all names."),
+         ({"do": "delete", "file": "forb-1.0.tar.gz"},
+          "Nobody holds forb. Did you mean `frob`? A file's name has `_` for the hyphens of its project's name.")]
+
+
+@pytest.mark.parametrize("row, told", SLIPS)
+def test_who_mistypes_a_name_is_not_led_to_claim_it(row, told):
+    assert said("NoProject", LISTED, **row) == told
+
+
+def test_who_uploads_to_a_name_that_nobody_holds_is_told_to_claim_it():
+    assert "claim it first, by `indexctl name claim frob`" in said("NoProject", do="upload", file="frob-1.0.tar.gz")
+
+
+def test_a_candidate_is_told_of_closing_a_case_alone():
+    assert said("NotOffice", do="set_quota") == "Only a user of the office may do this."
+    assert said("NotOffice", do="close_case").endswith(" A case may be closed by its candidate too.")
 
 
 def test_files_and_releases_are_counted():

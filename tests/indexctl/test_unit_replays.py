@@ -264,6 +264,10 @@ def test_an_attempt_that_the_case_counts_already_is_left(case, numbers):
     assert left(case, THREE) == numbers
 
 
+def test_no_case_counts_an_attempt_by_other_means():
+    assert not replays.is_counted(of(9, 9, "profile", "author", "pages"), [attempt(1, "post")])
+
+
 def test_an_attempt_is_asked_for_if_none_of_the_case_was_made_so():
     """Others of the office have records of their own: the case may have more attempts than this record."""
     assert left(of(1, 1, "pages"), THREE) == [] and left(of(1, 0, "profile"), THREE) == []

@@ -32,6 +32,14 @@ def test_a_secret_is_one_line_that_nobody_else_reads(home, mode):
     assert settings.read_secret(put(home / "s", " abc def \n", mode), "x") == "abc def"
 
 
+@pytest.mark.parametrize("name, why", [("none", "No such file or directory"), ("", "Is a directory")])
+def test_a_secret_that_can_t_be_read_is_told_by_its_path_and_why(home, name, why):
+    path = str(home / name)
+    with pytest.raises(Stop) as end:
+        settings.read_secret(path, "x")
+    assert (end.value.status, str(end.value)) == (WRONG, f"x: {path} can't be read: {why}")
+
+
 @pytest.mark.parametrize("mode", [0o640, 0o604, 0o610, 0o601, 0o620, 0o602])
 def test_a_secret_that_others_may_read_is_refused(home, mode):
     with pytest.raises(Stop, match="other users may read .*chmod 600") as end:

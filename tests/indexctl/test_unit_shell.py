@@ -1,7 +1,8 @@
-"""Texts of the manual page, of help and of completion."""
+"""Texts of the manual page and of help."""
 from __future__ import annotations
 
 import argparse
+import re
 
 import pytest
 from indexctl import command_line, shell
@@ -28,12 +29,6 @@ def command(*arguments):
     return Command("noun verb", "does this", arguments, run)
 
 
-def test_after_a_command_come_choices_and_options():
-    made = command(argument("means", choices=("a", "b")), argument("-q", "--quiet"), argument("name"),
-                   argument("--kind", choices=("x",)))
-    assert shell.completed(made) == ["a", "b", "--help", "--profile", "--again", "--quiet", "--kind"]
-
-
 def test_the_manual_of_a_command_has_its_usage_and_each_argument_with_help():
     made = command(argument("name", metavar="NAME"), argument("means", metavar="MEANS", help="how it was"),
                    argument("-q", "--quiet", action="store_true", help="says nothing"))
@@ -55,7 +50,8 @@ def test_each_command_is_parsed_with_its_function_and_the_common_defaults():
                                                                                       None)
     assert args.function.__name__ == "case_transfer"
     args = top.parse_args(["names", "--again", "2", "--profile", "x", "--json"])
-    assert (args.again, args.profile, args.json) == (2, "x", True)
+    # a command without --yes has not said it
+    assert (args.again, args.profile, args.json, args.yes) == (2, "x", True, False)
 
 
 @pytest.mark.parametrize("words", [[], ["case"], ["case", "open", "x"], ["case", "transfer", "x"], ["nmaes"],
@@ -67,8 +63,10 @@ def test_a_line_that_lacks_something_is_refused(words, capsys):
     assert end.value.code == 2 and "usage: indexctl" in capsys.readouterr().err
 
 
-def test_help_says_what_stands_where():
+@pytest.mark.parametrize("columns, most", [(60, 58), (200, 100)])
+def test_help_says_what_stands_where(monkeypatch, columns, most):
+    monkeypatch.setenv("COLUMNS", str(columns))
     text = command_line.epilog()
-    assert [it for it in text.splitlines() if it.endswith(":")] == ["environment:", "files:", "status:"]
-    assert max(map(len, text.splitlines())) <= 100
+    assert re.findall(r"^(\S+):$", text, re.M) == ["environment", "files", "status"]
+    assert most - 10 < max(map(len, text.splitlines())) <= most
     assert "\n  INDEX_URL               the address of the index" in text

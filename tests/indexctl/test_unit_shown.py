@@ -2,14 +2,19 @@
 from __future__ import annotations
 
 import json
+import sys
+import types
 
 import pytest
+from indexctl import commands
 from indexctl.contents import FileRow
-from indexctl.ends import REFUSED, Stop
+from indexctl.ends import REFUSED, WRONG, Stop
 from indexctl.names import sha256
 from indexctl.standings import Standing
+from indexctl.units import SIX_WEEKS
 from package_index.names import read_file_name
 from support.indexctl.rows import CASE, OPENED, SETTING, case_of, held
+from support.unit import raises
 
 
 def rows_of(capsys):
@@ -44,6 +49,22 @@ def test_tables_say_it_in_words(run, capsys):
     assert "80.0 %" in capsys.readouterr().out.splitlines()[1]
 
 
+@pytest.mark.parametrize("words", [("case", "list"), ("case", "show", "a")])
+def test_moments_are_whole_seconds(run, capsys, monkeypatch, words):
+    run.names, run.desk.is_caller = [held("a", case=case_of(first=None))], "user"
+    monkeypatch.setattr(commands.cases, "time", types.SimpleNamespace(time=lambda: OPENED + 0.9))
+    run(*words, "--json")
+    found = rows_of(capsys)
+    assert [it["earliest"] for it in (found if words[1] == "list" else [found])] == [OPENED + SIX_WEEKS]
+
+
+def test_a_profile_is_shown_without_its_password_or_without_an_address(run, capsys, monkeypatch):
+    profiles = {"a": {"url": "https://me:secret@x"}, "b": {"ca": "c"}}
+    monkeypatch.setattr(commands.tokens, "read_profiles", lambda: profiles)
+    run("profile", "--json")
+    assert rows_of(capsys) == [{"profile": "a", "url": "https://..@x"}, {"profile": "b", "ca": "c", "url": ""}]
+
+
 def cases_are(run, *found, is_office=True):
     from indexctl.cases import case_row
     rows = [case_row(held(name), case_of(**more), OPENED + 5, None) for name, more in found]
@@ -55,7 +76,7 @@ def test_a_case_is_shown_with_its_texts(run, capsys):
     cases_are(run, ("a", {"attempts": 4, "author": False}))
     run("case", "show", "a")
     out = capsys.readouterr().out
-    for said in ("attempts   4, of which 3 were sent", "by         profile, pages", "tried      c", "why        y",
+    for said in ("attempts   3 of 4 sent", "by         profile, pages", "tried      c", "why        y",
                  "opened     2001-09-09 01:46 UTC"):
         assert said in out
     run("case", "show", "a", "--json")
@@ -92,6 +113,15 @@ def test_a_new_token_is_64_digits_with_its_digest(run, capsys):
     run("token", "new", "--json")
     row = rows_of(capsys)
     assert len(row["token"]) == 64 and row["digest"] == sha256(row["token"])
+
+
+@pytest.mark.parametrize("given", [EOFError(), UnicodeDecodeError("utf-8", b"\xff", 0, 1, "invalid start byte")])
+def test_a_token_that_nobody_types_or_that_is_no_text_has_no_digest(run, capsys, monkeypatch, given):
+    monkeypatch.setattr(sys, "stdin", types.SimpleNamespace(isatty=lambda: True))
+    monkeypatch.setattr(commands.tokens.getpass, "getpass", raises(given))
+    with pytest.raises(Stop, match="Type or pipe in one line of plain characters") as end:
+        run("token", "digest")
+    assert end.value.status == WRONG and not capsys.readouterr().out
 
 
 def has(run, name, *files):

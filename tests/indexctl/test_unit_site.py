@@ -2,17 +2,24 @@
 from __future__ import annotations
 
 import io
+import json
 import os
+import runpy
+import sys
+import types
 import zipfile
 
 import pytest
+from indexctl.commands import site
 from indexctl.contents import FileRow
-from indexctl.ends import Stop
+from indexctl.ends import WRONG, Stop
 from indexctl.site import about, folder, pages, projects
 from indexctl.site.about import About
 from indexctl.versions import is_final, is_release
 from support.indexctl.projects import wheel_of
 from support.indexctl.rows import OPENED, FakeIndex, case_of, held, reply
+from support.indexctl.scripted import STANDING
+from support.unit import calls
 
 
 def file(name="frob-1.0-py3-none-any.whl", release="1.0", yanked=None, sha256="a" * 64, python="", size=1_024):
@@ -53,6 +60,16 @@ def test_releases_are_grouped_in_their_order():
     files = [file("a", "2.0"), file("b", "2.0"), file("c", "1.0")]
     assert [(release, [it.file for it in its]) for release, its in projects.releases_in(files)] == [
         ("2.0", ["a", "b"]), ("1.0", ["c"])]
+
+
+FREE = reply(200, b'{"name": "frob", "state": "free"}')
+NO_FILES = reply(404, b'{"name": "NoProject"}')
+
+
+@pytest.mark.parametrize("replies", [(FREE, NO_FILES), (FREE, reply(200, b'{"files": []}')),
+                                     (reply(200, json.dumps({**STANDING, "name": "frob"}).encode()), NO_FILES)])
+def test_a_name_that_is_given_up_meanwhile_has_no_page(replies):
+    assert projects.find_project(FakeIndex(*replies), {}, "frob") is None
 
 
 def test_a_wheel_is_read_once():
@@ -102,16 +119,17 @@ SPOILT[GOOD.index(METADATA.encode()) + len(METADATA) + 3] ^= 0xff
 
 
 @pytest.mark.parametrize("body", [b"", b"no archive", archive_of("METADATA", b"Summary: x\n"),
-                                  archive_of("a/frob.dist-info/METADATA", b"Summary: x\n"), bytes(ENCRYPTED),
+                                  archive_of("a/frob.dist-info/METADATA", b"Summary: x\n"),
+                                  archive_of("frob.dist-info/METADATA.txt", b"Summary: x\n"), bytes(ENCRYPTED),
                                   bytes(SPOILT), GOOD[:-30]],
-                         ids=["empty", "text", "outside", "deeper", "encrypted", "spoilt", "cut"])
+                         ids=["empty", "text", "outside", "deeper", "longer", "encrypted", "spoilt", "cut"])
 def test_a_wheel_that_can_t_be_read_says_nothing(body):
     assert about.read_about(body) == about.NOTHING
 
 
 def test_of_a_long_metadata_the_beginning_is_read():
-    body = archive_of(METADATA, b"Summary: x\n" + b"A: b\n" * 50_000_000)
-    assert len(body) < 2_000_000 and about.read_about(body) == About("x")
+    first = b"Summary: x\nA: ".ljust((1 << 20) - 1, b"b") + b"\n"
+    assert about.read_about(archive_of(METADATA, first + b"Home-page: https://a.example\n")) == About("x")
 
 
 @pytest.mark.parametrize("found", [None, [], {"summary": "x"}, {"summary": 1, "home": "", "licence": ""},
@@ -128,6 +146,13 @@ HOSTILE = "<b>&\"'\u202e"
 SAFE = "&lt;b&gt;&amp;&quot;&#x27;\\u202e"
 
 
+def test_a_home_page_is_linked_and_a_licence_named():
+    address = "https://a.example/?x&amp;y"
+    facts = dict(pages.facts_of_wheel(About("", "https://a.example/?x&y", "MIT")))
+    assert facts == {"home page": f'<a href="{address}" rel="noreferrer nofollow">{address}</a>', "licence": "MIT"}
+    assert dict(pages.facts_of_wheel(about.NOTHING)) == {}
+
+
 def test_each_text_of_a_project_is_escaped():
     it = project([(HOSTILE, [file(HOSTILE, HOSTILE, HOSTILE, python=HOSTILE)])], HOSTILE,
                  About(HOSTILE, "https://a/?\"<", HOSTILE), name="frob", shown=HOSTILE, owners=[HOSTILE],
@@ -136,9 +161,11 @@ def test_each_text_of_a_project_is_escaped():
         assert HOSTILE[:3] not in made and "\u202e" not in made and SAFE in made and '?"<' not in made
 
 
-def test_a_case_is_told_with_its_candidate_and_moment():
-    found = pages.case_text(case_of(opened=OPENED, kind="reuse"))
-    assert found == "bob asks for this name, to reuse the name, since 2001-09-09 01:46 UTC"
+@pytest.mark.parametrize("kind, said", [("reuse", "to reuse the name"), ("continue", "to continue the project"),
+                                        ("of a later version", "of a later version")])
+def test_a_case_is_told_with_its_candidate_and_moment(kind, said):
+    found = pages.case_text(case_of(opened=OPENED, kind=kind))
+    assert found == f"bob asks for this name, {said}, since 2001-09-09 01:46 UTC"
 
 
 def test_only_a_project_that_can_be_installed_says_how():
@@ -184,6 +211,13 @@ def test_what_was_kept_and_is_spoilt_is_left_out(tmp_path):
         assert kept == {}
 
 
+def test_without_a_folder_nothing_is_asked_for(tmp_path, monkeypatch):
+    desks = calls(monkeypatch, site, "Desk")
+    with pytest.raises(Stop, match="none is not a folder") as end:
+        site.site(types.SimpleNamespace(folder=f"{tmp_path}/none", url=None))
+    assert end.value.status == WRONG and not desks
+
+
 def test_a_folder_of_something_else_is_refused(tmp_path):
     (tmp_path / "thesis.tex").write_text("x")
     with pytest.raises(Stop, match="has files of something else"), folder.kept_in(str(tmp_path)):
@@ -196,3 +230,13 @@ def test_a_second_run_waits_for_the_first(tmp_path, monkeypatch):
     monkeypatch.setattr(folder.fcntl, "flock", lambda _, how: locked.append(how))
     with folder.kept_in(str(tmp_path)):
         assert locked == [folder.fcntl.LOCK_EX]
+
+
+def test_a_system_without_locks_keeps_what_wheels_said_too(tmp_path, monkeypatch):
+    """As Windows, which has no such module."""
+    monkeypatch.setitem(sys.modules, "fcntl", None)
+    kept_in = runpy.run_path(folder.__file__)["kept_in"]
+    with kept_in(str(tmp_path)) as kept:
+        kept["a"] = About("s")
+    with kept_in(str(tmp_path)) as kept:
+        assert kept == {"a": About("s")}

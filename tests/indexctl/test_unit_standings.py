@@ -98,9 +98,14 @@ def test_a_project_that_is_not_there_has_none():
     assert standings.find_files(FakeIndex(as_reply(404, {"name": "NoProject"})), "a") == ([], [])
 
 
+def side_by_side(function, items):
+    """What a function gives for each item."""
+    return standings.side_by_side(lambda some: [function(it) for it in some], items, "x")
+
+
 def test_what_is_asked_side_by_side_comes_in_order():
-    assert list(standings.side_by_side(lambda it: it * 2, list(range(50)), "x")) == [it * 2 for it in range(50)]
-    assert list(standings.side_by_side(lambda it: it, [], "x")) == []
+    assert list(side_by_side(lambda it: it * 2, list(range(50)))) == [it * 2 for it in range(50)]
+    assert list(side_by_side(lambda it: it, [])) == []
 
 
 def test_what_is_answered_late_comes_in_its_place():
@@ -108,16 +113,16 @@ def test_what_is_answered_late_comes_in_its_place():
 
     def ask(it):
         if it == 0:
-            assert later.wait(20)
+            assert later.wait(60)
         else:
             later.set()
         return it
-    assert list(standings.side_by_side(ask, [0, 1, 2], "x")) == [0, 1, 2]
+    assert list(side_by_side(ask, [0, 1, 2])) == [0, 1, 2]
 
 
 def test_eight_are_asked_at_once():
-    together = threading.Barrier(8, timeout=20)
-    assert len(list(standings.side_by_side(lambda _: together.wait(), list(range(8)), "x"))) == 8
+    together = threading.Barrier(8, timeout=60)
+    assert len(list(side_by_side(lambda _: together.wait(), list(range(8))))) == 8
 
 
 def test_the_first_failure_ends_a_walk():
@@ -126,12 +131,14 @@ def test_the_first_failure_ends_a_walk():
             raise Stop(UNREACHED, "no 3")
         return it
     with pytest.raises(Stop, match="no 3"):
-        list(standings.side_by_side(fail, list(range(20)), "x"))
+        list(side_by_side(fail, list(range(20))))
 
 
 def test_a_name_that_is_given_up_meanwhile_is_left_out():
     index = FakeIndex(as_reply(200, {"projects": [{"name": "a"}]}), as_reply(200, {"name": "a", "state": "free"}))
     assert list(standings.held_names(index)) == []
+    # a list that nginx has kept is as good
+    assert dict(index.asked[0].headers) == {"Accept": standings.JSON_PAGE}
 
 
 def test_several_indexes_behind_one_address_have_no_list():
@@ -143,10 +150,11 @@ def test_several_indexes_behind_one_address_have_no_list():
 def test_no_more_than_eight_are_asked_at_once(monkeypatch):
     made, thread = [], threading.Thread
     monkeypatch.setattr(standings.threading, "Thread", lambda **given: made.append(given) or thread(**given))
-    assert list(standings.side_by_side(lambda it: it, list(range(20)), "x")) == list(range(20))
+    assert list(side_by_side(lambda it: it, list(range(20)))) == list(range(20))
     assert len(made) == 8
-    assert list(standings.side_by_side(lambda it: it, [1, 2], "x")) == [1, 2]
-    assert len(made) == 10
+    assert list(side_by_side(lambda it: it, [1, 2])) == [1, 2]
+    # a program that is interrupted waits for none of them
+    assert len(made) == 10 and all(it["daemon"] for it in made)
 
 
 def test_a_fresh_page_is_asked_for_as_nobody_asked_before():
@@ -159,14 +167,20 @@ def test_a_fresh_page_is_asked_for_as_nobody_asked_before():
     assert first.startswith(f"{kept}, application/x-fresh-") and second.startswith(f"{kept}, application/x-fresh-")
 
 
+def test_what_nginx_keeps_is_good_enough_if_no_fresh_page_is_asked_for():
+    index = FakeIndex(as_reply(200, {"projects": [{"name": "a"}]}), as_reply(200, {"files": [], "versions": ["1"]}))
+    assert (standings.listed_names(index), standings.find_files(index, "a")) == (["a"], ([], ["1"]))
+    assert [dict(it.headers) for it in index.asked] == 2 * [{"Accept": standings.JSON_PAGE}]
+
+
 @pytest.mark.parametrize("count", [1, 31, 32, 33, 64, 65, 1_000, 5_003])
 def test_a_long_walk_comes_whole_and_in_order(count):
-    assert list(standings.side_by_side(lambda it: -it, list(range(count)), "x")) == [-it for it in range(count)]
+    assert list(side_by_side(lambda it: -it, list(range(count)))) == [-it for it in range(count)]
 
 
 def test_what_is_asked_side_by_side_comes_before_all_was_asked():
     last = threading.Event()
-    found = standings.side_by_side(lambda it: it < 19 or last.wait(20), list(range(20)), "x")
+    found = side_by_side(lambda it: it < 19 or last.wait(60), list(range(20)))
     assert next(found) is True
     last.set()
     assert list(found) == 19 * [True]
@@ -174,8 +188,16 @@ def test_what_is_asked_side_by_side_comes_before_all_was_asked():
 
 def test_a_name_of_the_list_is_asked_for_at_a_glance():
     index = FakeIndex(glances=[json.dumps(HELD).encode()])
-    assert standings.walked_standing(index, "Frob").owners == ["ann"]
+    assert standings.walked_standings(index, ["Frob"])[0].owners == ["ann"]
     assert (index.glanced, index.asked) == (["/names/Frob"], [])
+
+
+def test_names_of_the_list_come_in_its_order():
+    """Also if one of them is asked for once more."""
+    index = FakeIndex(as_reply(200, {**HELD, "name": "b"}),
+                      glances=[json.dumps({**HELD, "name": it}).encode() for it in "axc"])
+    assert [it.name for it in standings.walked_standings(index, ["a", "b", "c"])] == ["a", "b", "c"]
+    assert (index.glanced, [it.path for it in index.asked]) == (["/names/a", "/names/b", "/names/c"], ["/names/b"])
 
 
 @pytest.mark.parametrize("seen", [
@@ -183,10 +205,10 @@ def test_a_name_of_the_list_is_asked_for_at_a_glance():
     None])
 def test_what_a_glance_does_not_show_is_asked_for(seen):
     index = FakeIndex(as_reply(200, {**HELD, "quota": 7}), glances=[] if seen is None else [seen])
-    assert standings.walked_standing(index, "frob").quota == 7
+    assert standings.walked_standings(index, ["frob"])[0].quota == 7
     assert [it.path for it in index.asked] == ["/names/frob"]
 
 
 def test_a_name_that_is_refused_in_a_walk_says_what_to_do():
     with pytest.raises(Stop, match="^x: 400 BadName. This is not a project's name"):
-        standings.walked_standing(FakeIndex(as_reply(400, {"answer": "refused", "name": "BadName"})), "x")
+        standings.walked_standings(FakeIndex(as_reply(400, {"answer": "refused", "name": "BadName"})), ["x"])

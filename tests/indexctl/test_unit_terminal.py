@@ -14,8 +14,17 @@ from support.unit import with_time
 
 
 class Tty(io.StringIO):
+    """A terminal. `seen` is what was on it after each time that all was written."""
+
+    def __init__(self):
+        super().__init__()
+        self.seen = []
+
     def isatty(self):
         return True
+
+    def flush(self):
+        self.seen.append(self.getvalue())
 
 
 @pytest.fixture(autouse=True)
@@ -57,8 +66,20 @@ def test_progress_is_drawn_ten_times_a_second_and_cleared(monkeypatch):
         clock.now += 0.06
         progress.step()
     assert stream.getvalue() == "\rnames: 1 of 3, 33 %\033[K\rnames: 3 of 3, 100 %\033[K\r\033[K"
+    assert stream.seen[0] == "\rnames: 1 of 3, 33 %\033[K" and stream.seen[-1] == stream.getvalue()
     terminal.Progress.clear()
     assert stream.getvalue().count("\r") == 3
+
+
+@pytest.mark.parametrize("told", [terminal.say, terminal.note])
+def test_a_line_stands_where_progress_stood(monkeypatch, told):
+    stream, _ = Tty(), Clock(monkeypatch)
+    monkeypatch.setattr(sys, "stderr", stream)
+    monkeypatch.setattr(sys, "stdout", stream)
+    with terminal.Progress("names", 3) as progress:
+        progress.step()
+        told("b")
+    assert stream.getvalue() == "\rnames: 1 of 3, 33 %\033[K\r\033[Kb\n"
 
 
 def test_progress_fits_the_terminal_and_counts_nothing_as_nothing(monkeypatch):
@@ -80,6 +101,14 @@ def test_what_was_done_and_what_is_noted_go_to_two_streams(capsys):
     terminal.note("b")
     out = capsys.readouterr()
     assert (out.out, out.err) == ("a\\u0007\n", "b\n")
+
+
+@pytest.mark.parametrize("name, tell", [("stdout", terminal.say), ("stderr", terminal.note)])
+def test_a_line_is_printed_at_once_though_nobody_looks(monkeypatch, name, tell):
+    kept = io.BytesIO()
+    monkeypatch.setattr(sys, name, io.TextIOWrapper(kept))
+    tell("x")
+    assert kept.getvalue() == b"x\n"
 
 
 def test_yes_is_not_asked_if_it_was_given():
@@ -143,7 +172,17 @@ def test_a_table_that_is_wider_than_the_terminal_is_printed_in_blocks(monkeypatc
     monkeypatch.setenv("NO_COLOR", "1")
     terminal.listing(args(), ROWS, terminal.texts("name", "owners"))
     assert stream.getvalue() == ("name       owners\na          x, y\nlong-name\n" if is_table else
-                                 "name    a\nowners  x, y\n\nname    long-name\nowners\n\n")
+                                 "name    a\nowners  x, y\n\nname    long-name\n\n")
+
+
+@pytest.mark.parametrize("names, wide", [(["name"], 9), (["name", "owners"], 17), (["name", "owners", "full"], 23)])
+def test_a_table_is_as_wide_as_its_columns_with_the_gaps_between_them(monkeypatch, names, wide):
+    monkeypatch.setenv("NO_COLOR", "1")
+    for columns, is_table in ((wide, True), (wide - 1, False)):
+        monkeypatch.setattr(sys, "stdout", stream := Tty())
+        monkeypatch.setenv("COLUMNS", str(columns))
+        terminal.listing(args(), ROWS, {it: COLUMNS[it] for it in names})
+        assert (stream.getvalue().splitlines()[0].split() == names) == is_table
 
 
 def test_a_text_of_a_row_is_of_its_field_or_its_key():
@@ -152,8 +191,17 @@ def test_a_text_of_a_row_is_of_its_field_or_its_key():
 
 
 def test_a_long_cell_is_wrapped_below_itself(capsys):
-    terminal.print_block({"why": "one two three four five six seven"}, 30)
-    assert capsys.readouterr().out == "why  one two three four five\n     six seven\n\n"
+    for most in (30, 29):
+        terminal.print_block({"why": "one two three four fives six seven"}, most)
+    assert capsys.readouterr().out == ("why  one two three four fives\n     six seven\n\n"
+                                       "why  one two three four\n     fives six seven\n\n")
+
+
+def test_a_name_is_not_torn_by_its_hyphen_or_for_its_length(capsys):
+    terminal.print_block({"why": "one two three four fi-ves six"}, 30)
+    assert capsys.readouterr().out == "why  one two three four\n     fi-ves six\n\n"
+    terminal.print_block({"why": f"one {'f' * 64} two"}, 30)
+    assert capsys.readouterr().out == f"why  one\n     {'f' * 64}\n     two\n\n"
 
 
 def test_a_cell_has_twenty_columns_at_least(capsys):

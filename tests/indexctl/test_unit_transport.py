@@ -2,17 +2,21 @@
 from __future__ import annotations
 
 import http.client
+import io
+import re
 import socket
 import ssl
 import struct
 import threading
 
 import pytest
-from indexctl import transport
+from indexctl import command_line, transport
+from indexctl.about import AGAIN
 from indexctl.ends import REFUSED, UNREACHED, WRONG, Stop
 from indexctl.transport import Index, NotSent, Request
 from support.indexctl.rows import SETTING, reply
-from support.unit import with_time
+from support.server.front import kept, seconds_of_waits
+from support.unit import raises, with_time
 
 OK, BUSY = reply(200, b"{}"), reply(503, b'{"name":"Unavailable"}')
 GET, POST = Request("GET", "/x"), Request("POST", "/x", (), lambda: [b""], 0)
@@ -55,7 +59,7 @@ def test_what_passes_by_itself_is_asked_again(trial, status):
 
 def test_pauses_double_up_to_thirty_seconds(trial):
     one = trial([BUSY] * 9, again=8)
-    with pytest.raises(Stop, match="503 Unavailable, 9 times. The index does not answer now. Run this again") as end:
+    with pytest.raises(Stop, match=f"503 Unavailable, 9 times. The index at {SETTING.url} does not answer") as end:
         one.index.ask("x", GET)
     assert end.value.status == UNREACHED and one.pauses == [0.5, 1, 2, 4, 8, 16, 30, 30]
 
@@ -65,6 +69,20 @@ def test_a_pause_is_what_the_reply_asks_for_within_bounds(trial, later, pause):
     one = trial([reply(503, b"", Retry_After=later), OK])
     one.index.ask("x", GET)
     assert one.pauses == [pause]
+
+
+def test_the_help_says_how_long_an_index_that_is_away_is_tried(trial):
+    later, = re.findall(r"add_header Retry-After (\d+) always;", kept("packages.conf"))
+    taken = []
+    for ends, waits in ([NotSent("no route")] * 7, 0), ([reply(503, b"", Retry_After=later)] * 7, seconds_of_waits()):
+        one = trial(ends)
+        with pytest.raises(Stop, match="7 times"):
+            one.index.ask("x", GET)
+        taken.append(sum(one.pauses) + 7 * waits)
+    assert 28 <= taken[0] <= 32 and 85 <= taken[1] <= 92, taken
+    assert "6, for half a minute, or a minute and a half if nginx waits" in AGAIN
+    help_ = re.sub(r"\s+", " ", command_line.parsers(command_line.COMMANDS)[0].format_help())
+    assert AGAIN in help_ and command_line.parsers(command_line.COMMANDS)[0].get_default("again") == 6
 
 
 def test_none_is_asked_again_if_that_was_asked_for(trial):
@@ -146,17 +164,17 @@ def test_a_connection_is_to_the_address(monkeypatch):
 
 
 @pytest.mark.parametrize("url, proxy, no_proxy, host, port, tunnel", [
-    ("https://packages.test", "http://proxy.test:3128", "", "proxy.test", 3128, "packages.test"),
-    ("https://packages.test", "proxy.test", "", "proxy.test", 80, "packages.test"),
-    ("https://packages.test", "http://proxy.test:3128", "packages.test", "packages.test", 443, None),
-    ("https://127.0.0.1:9", "http://proxy.test:3128", "", "127.0.0.1", 9, None),
-    ("https://packages.test:9", "", "", "packages.test", 9, None)])
+    ("https://packages.test", "http://proxy.test:3128", "", "proxy.test", 3128, ("packages.test", 443)),
+    ("https://packages.test:9", "proxy.test", "", "proxy.test", 80, ("packages.test", 9)),
+    ("https://packages.test", "http://proxy.test:3128", "packages.test", "packages.test", 443, (None, None)),
+    ("https://127.0.0.1:9", "http://proxy.test:3128", "", "127.0.0.1", 9, (None, None)),
+    ("https://packages.test:9", "", "", "packages.test", 9, (None, None))])
 def test_a_connection_goes_through_the_proxy_of_the_network(monkeypatch, url, proxy, no_proxy, host, port, tunnel):
     for name, value in (("https_proxy", proxy), ("no_proxy", no_proxy)):
         monkeypatch.delenv(name.upper(), raising=False)
         monkeypatch.setenv(name, value)
     found = index_of(url).connection()
-    assert (found.host, found.port, found._tunnel_host) == (host, port, tunnel)
+    assert (found.host, found.port, (found._tunnel_host, found._tunnel_port)) == (host, port, tunnel)
 
 
 def test_the_password_of_the_proxy_is_a_header():
@@ -189,7 +207,7 @@ PLAIN = b"HTTP/1.1 200 OK\r\nServer: nginx\r\nContent-Length: 2\r\n"
 
 class Listener:
     """Answers what comes on each connection by the next of these texts, in these pieces, and keeps what came. A
-    connection without texts is reset."""
+    connection without texts is reset when something came: before that the client may not even see it open."""
 
     def __init__(self, *connections):
         self.peer, self.connections, self.came = socket.create_server(("127.0.0.1", 0)), connections, []
@@ -200,6 +218,7 @@ class Listener:
         for replies in self.connections:
             with self.peer.accept()[0] as one:
                 if not replies:
+                    one.recv(4096)
                     one.setsockopt(socket.SOL_SOCKET, socket.SO_LINGER, struct.pack("ii", 1, 0))
                 for pieces in replies:
                     self.came.append(one.recv(4096))
@@ -215,10 +234,18 @@ class Listener:
         self.peer.close()
 
 
+def test_an_answer_in_plain_http_where_tls_is_spoken_is_not_asked_for_again():
+    with Listener([[PLAIN + b"\r\nok"]]) as listener:
+        index = index_of(listener.url.replace("http:", "https:"))
+        with pytest.raises(Stop, match=f"What answers at {index.setting.url}, .* does not speak TLS") as end:
+            index.ask("x", GET)
+    assert end.value.status == WRONG and len(listener.came) == 1
+
+
 def glances(connections, count):
     with Listener(*connections) as listener:
         index = index_of(listener.url, basic="ann:x")
-        found = [index.glance("/names/a") for _ in range(count)]
+        found = [index.glances(["/names/a"])[0] for _ in range(count)]
         index.leave()
     return found, listener.came
 
@@ -243,9 +270,73 @@ class Pieces:
         return self.pieces.pop(0) if self.pieces else b""
 
 
+def plain(count, *pieces):
+    """What is read of so many replies, and whether nothing more may be asked."""
+    found = []
+    is_last = transport.read_plain(Pieces(*pieces), count, found)
+    return found, is_last
+
+
 def test_all_pieces_of_a_plain_reply_are_read():
-    assert transport.read_plain(Pieces(PLAIN[:9], PLAIN[9:], b"\r\n", b"o", b"k")) == (b"ok", False)
-    assert transport.read_plain(Pieces(PLAIN, b"\r\n", b"o")) == (None, True)
+    assert plain(1, PLAIN[:9], PLAIN[9:], b"\r\n", b"o", b"k") == ([b"ok"], False)
+    assert plain(1, PLAIN, b"\r\n", b"o") == ([None], True)
+
+
+ONE, OTHER, LAST = PLAIN + b"\r\nok", PLAIN + b"\r\nno", PLAIN + b"Connection: close\r\n\r\nok"
+
+
+@pytest.mark.parametrize("pieces, found, is_last", [
+    ([ONE + OTHER + ONE], [b"ok", b"no", b"ok"], False),
+    ([(ONE + OTHER + ONE)[at:at + 1] for at in range(3 * len(ONE))], [b"ok", b"no", b"ok"], False),
+    ([ONE + OTHER[:-1], OTHER[-1:] + ONE[:9], ONE[9:]], [b"ok", b"no", b"ok"], False),
+    ([ONE + LAST + ONE], [b"ok", b"ok"], True), ([ONE + OTHER], [b"ok", b"no", None], True),
+    ([ONE + OTHER + ONE + b"x"], [b"ok", b"no", None], True),
+    ([ONE + b"HTTP/1.1 404 Not Found\r\nContent-Length: 2\r\n\r\nok" + ONE], [b"ok", None], True)])
+def test_several_replies_come_behind_each_other(pieces, found, is_last):
+    assert plain(3, *pieces) == (found, is_last)
+
+
+def asked_in(came):
+    """The paths that were asked for by what came at once."""
+    return [re.findall(rb"GET (\S+) HTTP/1.1\r\n", it) for it in came]
+
+
+def test_on_a_kept_connection_several_go_out_at_once():
+    paths = [f"/names/{at}" for at in range(19)]
+    with Listener([[ONE], [ONE + 15 * OTHER], [LAST]], [[ONE], [OTHER]]) as listener:
+        index = index_of(listener.url)
+        assert index.glances(paths) == [b"ok", b"ok", *15 * [b"no"], b"ok", b"ok"]
+        assert index.glances(paths[:1]) == [b"no"]
+        index.leave()
+    assert asked_in(listener.came) == [[it.encode() for it in some] for some in (
+        paths[:1], paths[1:17], paths[17:], paths[18:], paths[:1])]
+
+
+def test_what_a_reply_that_is_the_last_leaves_is_asked_on_another_connection():
+    """One at a time there, until it is seen that it is kept."""
+    with Listener([[LAST]], [[LAST]], [[OTHER], [OTHER]]) as listener:
+        index = index_of(listener.url)
+        assert index.glances(["/a", "/b", "/c", "/d"]) == [b"ok", b"ok", b"no", b"no"]
+        index.leave()
+    assert asked_in(listener.came) == [[b"/a"], [b"/b"], [b"/c"], [b"/d"]]
+
+
+@pytest.mark.parametrize("failure", [NotSent("no connection"), socket.timeout(), ConnectionResetError()])
+def test_behind_a_failure_nothing_is_asked_at_a_glance(monkeypatch, failure):
+    """Each may wait as long as the first did. `ask` says what there is to say."""
+    tried, fail, index = [], raises(failure), index_of("http://127.0.0.1:9")
+    monkeypatch.setattr(index, "kept_connection", lambda: tried.append(1) or fail())
+    assert index.glances(["/a", "/b", "/c"]) == 3 * [None] and len(tried) == 1
+
+
+def test_the_address_of_a_host_is_found_once_and_again_after_a_failure(monkeypatch):
+    found, look = [], socket.getaddrinfo
+    monkeypatch.setattr(socket, "getaddrinfo", lambda *it: found.append(it) or look(*it))
+    with Listener([[LAST]], [[LAST]], [[LAST]]) as listener:
+        index = index_of(listener.url)
+        assert index.glances(["/a", "/b", "/c"]) == 3 * [b"ok"] and len(found) == 1
+    assert index.glances(["/a"]) == [None] and len(found) == 1
+    assert index.glances(["/a"]) == [None] and len(found) == 2
 
 
 @pytest.mark.parametrize("reply_", [
@@ -276,7 +367,7 @@ def test_a_connection_that_the_reply_ends_is_not_asked_again():
 def test_where_nobody_listens_a_glance_shows_nothing():
     with socket.socket() as taken:
         taken.bind(("127.0.0.1", 0))
-        assert index_of(f"http://127.0.0.1:{taken.getsockname()[1]}").glance("/x") is None
+        assert index_of(f"http://127.0.0.1:{taken.getsockname()[1]}").glances(["/x"]) == [None]
 
 
 def test_a_kept_connection_that_was_closed_meanwhile_is_opened_again_at_once(monkeypatch):
@@ -284,10 +375,44 @@ def test_a_kept_connection_that_was_closed_meanwhile_is_opened_again_at_once(mon
     plain = [PLAIN + b"\r\nok"]
     with Listener([plain], [plain]) as listener:
         index = index_of(listener.url)
-        assert index.glance("/x") == b"ok"
+        assert index.glances(["/x"]) == [b"ok"]
         assert index.kept.connection.sock.recv(1) == b"", "the listener has closed it"
-        assert index.glance("/x") is None and index.ask("x", GET).body == b"ok"
+        assert index.glances(["/x"]) == [None] and index.ask("x", GET).body == b"ok"
         index.leave()
+
+
+def test_a_glance_that_is_interrupted_ends_its_connection(monkeypatch):
+    """Else the next one would read the rest of its reply."""
+    monkeypatch.setattr(transport, "read_plain", raises(KeyboardInterrupt()))
+    with Listener([[]]) as listener:
+        index = index_of(listener.url)
+        with pytest.raises(KeyboardInterrupt):
+            index.glances(["/x"])
+        assert index.kept.connection.sock is None
+
+
+class Wire:
+    """A socket that keeps what is sent, and answers."""
+
+    def __init__(self):
+        self.sent = b""
+
+    def sendall(self, data):
+        self.sent += data
+
+    def makefile(self, *_):
+        return io.BytesIO(PLAIN + b"\r\nok")
+
+    def close(self):
+        pass
+
+
+@pytest.mark.parametrize("pieces, body", [(lambda: [b"a", b"bc"], b"abc"), (None, b"")])
+def test_a_request_goes_out_with_all_its_pieces(monkeypatch, pieces, body):
+    index, wire = index_of("http://127.0.0.1"), Wire()
+    monkeypatch.setattr(index, "connect", lambda connection: setattr(connection, "sock", wire))
+    found = index.once(Request("PUT", "/x", (), pieces, len(body)))
+    assert (found.status, found.body, wire.sent.partition(b"\r\n\r\n")[2]) == (200, b"ok", body)
 
 
 class Unreached:
@@ -314,10 +439,10 @@ def test_a_connection_that_may_open_later_is_tried_again(end):
 
 
 @pytest.mark.parametrize("code, said", [(10, "not valid at this time"), (9, "Is your clock right"), (18, "INDEX_CA"),
-                                        (92, "is not trusted")])
+                                        (92, "has no keyUsage"), (91, "is not trusted"), (93, "is not trusted")])
 def test_a_certificate_out_of_its_time_wants_no_other_authority(code, said):
     end = ssl.SSLCertVerificationError(1, "x")
     end.verify_code, end.verify_message = code, "why"
     with pytest.raises(Stop, match=said) as stop:
         Index(SETTING).connect(Unreached(end))
-    assert stop.value.status == WRONG and ("INDEX_CA" in str(stop.value)) == (code not in (9, 10))
+    assert stop.value.status == WRONG and ("INDEX_CA" in str(stop.value)) == (code not in (9, 10, 92))

@@ -44,6 +44,13 @@ def test_a_file_is_known_by_its_name_and_its_bytes(tmp_path, make):
     assert (file.size, file.digest, b"".join(file.pieces())) == (len(data), hashlib.sha256(data).hexdigest(), data)
 
 
+@pytest.mark.parametrize("path", [
+    "frob-1.0/PKG-INFO", "./frob-1.0/PKG-INFO", "frob-1.0.dist-info/METADATA"])
+def test_the_metadata_is_the_file_of_just_this_path(tmp_path, path):
+    make = wheel if "METADATA" in path else source
+    assert File(make(tmp_path, inside=(f"{path}.txt", path, f"x/{path}", f"{path}/x"))).shown == "Frob"
+
+
 @pytest.mark.parametrize("requires", ["", ">=3.8", ">=3.8, <4", "~=3.8", "==3.*", "===3.8", "!=3.9,>3", "> 3", "<=4"])
 def test_a_list_of_specifiers_is_taken(tmp_path, requires):
     assert File(wheel(tmp_path, text=f"{TEXT}Requires-Python: {requires}\n")).requires == requires
@@ -121,9 +128,11 @@ def test_a_name_of_another_kind_is_refused(name):
     assert end.value.status == WRONG
 
 
-def test_of_a_folder_wheels_and_archives_are_taken(tmp_path, capsys):
+def test_of_a_folder_wheels_and_archives_are_taken_in_their_order(tmp_path, capsys, monkeypatch):
     for name in ("b.whl", "a.tar.gz", "c.zip", "d.tar.bz2", "e.tar.xz", "f.egg", "README", "g.asc"):
         (tmp_path / name).write_text("")
+    names = sorted(os.listdir(tmp_path), reverse=True)
+    monkeypatch.setattr(uploads.os, "listdir", lambda _: names)
     assert [os.path.basename(it) for it in uploads.files_in(str(tmp_path))] == ["a.tar.gz", "b.whl"]
     assert [it.split("/")[-1].split(" ")[0] for it in capsys.readouterr().err.splitlines()] == [
         "c.zip", "d.tar.bz2", "e.tar.xz", "f.egg"]
@@ -150,7 +159,8 @@ def test_wheels_go_first_and_then_by_name(tmp_path):
 def test_a_file_that_is_no_archive_is_told(tmp_path, name, data):
     if data is not None:
         (tmp_path / name).write_bytes(data)
-    with pytest.raises(Stop, match="^A file can't be read: ") as end:
+    said = "there is no such file or folder" if data is None else "^A file can't be read: "
+    with pytest.raises(Stop, match=said) as end:
         uploads.files_of([str(tmp_path / name)])
     assert end.value.status == WRONG
 

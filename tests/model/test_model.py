@@ -11,6 +11,9 @@ from support.compare.runs import Runner, pasted, shown, smallest
 from support.model_runs import wanted, written_run
 
 SECONDS, MOST_CUTTING, MOST_RUNS = 30, 60, 400
+# eight runs met every answer each time that it was tried, and most often two; a busy machine makes few in a minute
+ENOUGH = 60
+pytestmark = pytest.mark.timeout(1_800)
 
 
 def first_difference(program, folder, chance, number, met):
@@ -28,11 +31,11 @@ def told(program, runner, store, steps, found):
 
 
 def test_program_and_model_answer_alike_and_every_answer_is_met(program, folder, chance, looked, pytestconfig):
-    """Each kind of request is accepted, and each refusal and each status met. Until then runs go on, three times as
-    long at most."""
+    """Each kind of request is accepted, and each refusal and each status met. Until then runs go on, however long they
+    take."""
     met, number, begun = Counter(), 0, time.monotonic()
     seconds = pytestconfig.option.seconds or SECONDS
-    while time.monotonic() < begun + seconds * (1 if not unmet(met) else 3):
+    while time.monotonic() < begun + seconds or number < ENOUGH and unmet(met):
         runner, store, steps, found = first_difference(program, folder, chance, number, met)
         if found:
             pytest.fail(told(program, runner, store, steps, found), pytrace=False)
@@ -47,6 +50,7 @@ def unmet(met):
     return [word for word in wanted() if word not in seen]
 
 
+@pytest.mark.slow
 @pytest.mark.parametrize("bug", BREAKS)
 def test_a_bug_in_the_model_is_seen(program, folder, chance, bug):
     met, (_, patched) = Counter(), BREAKS[bug]

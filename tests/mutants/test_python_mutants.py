@@ -5,13 +5,15 @@ or a branch left out, an exception swallowed, a default changed: of those that a
 by a test that is named.
 
 `--mutants 300 --seed 1` draws so many. What was read and is the same program stands in equivalent.json, with why."""
+import glob
 import json
 import os
 import time
 
 import pytest
-from support.mutant_runs import (EQUIVALENT, MutantRuns, draw, equivalents, functions_of, least_caught, others_of,
-                                 python_files, seen_by_file, units_of)
+from support.inner_runs import Ended, copy_rooms, run_tests
+from support.mutant_runs import (EQUIVALENT, ROOMS, MutantRuns, caught_by, draw, equivalents, function_of, functions_of,
+                                 least_caught, others_of, python_files, seen_by_file, units_of, words_in)
 from support.places import TOP
 from support.python_mutants import is_program, mutants_of
 
@@ -50,6 +52,32 @@ def test_each_file_has_tests():
     assert not [it for it in python_files() if not units_of(it) and not others_of(it, table)]
 
 
+def test_a_test_is_asked_again_without_its_parameters():
+    """pytest prints those with `//` as paths, with one `/`, and would find no such test."""
+    function = "tests/server/test_unit_metrics.py::test_an_index_is_told_by_its_port_also_if_the_address_has_none"
+    assert run_tests(TOP, [function_of(f"{function}[https:/packages.example-443]")]).status == 0
+
+
+def test_the_unit_tests_that_read_the_crates_pass_in_a_copy(tmp_path):
+    """One that fails where nothing is wrong would hide those behind it."""
+    names = [os.path.relpath(it, TOP) for room in ROOMS.values() for it in glob.glob(f"{TOP}/{room}/test_unit_*.py")]
+    names = [it for it in names if "crates" in words_in(it)]
+    ended = run_tests(copy_rooms(str(tmp_path)), names)
+    assert names and ended.status == 0, ended.said[-3_000:]
+
+
+def test_a_copy_has_nothing_that_runs_have_left(tmp_path):
+    """Other runs write there meanwhile, and a file that goes as it is copied would end the copy."""
+    os.makedirs(f"{TOP}/tests/out", exist_ok=True)
+    assert "out" not in os.listdir(f"{copy_rooms(str(tmp_path / 'copy'))}/tests")
+
+
+@pytest.mark.parametrize("status", [-15, 2, 3, 4])
+def test_a_mutant_that_ends_pytest_itself_is_caught_by_no_test(status):
+    """It refuses no run: of many mutants it is one that is not caught."""
+    assert caught_by(Ended(status, frozenset(), frozenset(), "")) == ""
+
+
 def test_what_is_the_same_program_is_there():
     """Each of the list is a mutant of today's code; one that is not goes."""
     files = python_files()
@@ -65,14 +93,22 @@ def test_mutants_are_caught(pytestconfig, program):
     seed = "{}/{}".format(*option.share) if option.share else pytestconfig.seed
     drawn = draw(option.mutants or 20, seed)
     until = time.monotonic() + (option.seconds or float("inf"))
-    results = MutantRuns(program, until).all(drawn, option.mutant_jobs, time.monotonic)
-    os.makedirs(f"{TOP}/tests/out", exist_ok=True)
-    with open(f"{TOP}/tests/out/mutants.json", "w", encoding="utf-8") as kept:
-        json.dump([{**it.mutant.told(), "caught_by": it.caught_by, "same": it.why_equivalent} for it in results], kept)
+    results = []
+    for one in MutantRuns(program, until).all(drawn, option.mutant_jobs, time.monotonic):
+        results.append(one)
+        print(one, flush=True)
+        keep(results)
     others = [it for it in results if not it.why_equivalent]
     caught = [it for it in others if it.caught_by]
     first = (f"seed {seed}: {len(caught)} of {len(others)} mutants are caught, {len(results) - len(others)} are the "
              f"same program by {os.path.basename(EQUIVALENT)}, {len(drawn) - len(results)} were not tried")
-    said = "\n".join([first, *(str(it) for it in results)])
-    print(said)
-    assert others and len(caught) >= least_caught(len(others)), said
+    print(first)
+    survived = [str(it) for it in others if not it.caught_by]
+    assert others and len(caught) >= least_caught(len(others)), "\n".join([first, *survived])
+
+
+def keep(results):
+    """Keeps what became of each, after each: a long run may be interrupted."""
+    os.makedirs(f"{TOP}/tests/out", exist_ok=True)
+    with open(f"{TOP}/tests/out/mutants.json", "w", encoding="utf-8") as kept:
+        json.dump([{**it.mutant.told(), "caught_by": it.caught_by, "same": it.why_equivalent} for it in results], kept)

@@ -15,8 +15,10 @@ EDITS = edits()
 GONE = "tests/clients/test_gone_clients.py"
 KILLS, MESSAGES = "tests/storage/test_kills.py::TestKilled", "tests/program/test_messages.py"
 FAULTS, CRASHES = "tests/storage/test_faults.py", "tests/storage/test_crashes.py"
-CACHE, CAUSES, CONTROLS, ENDS, MEMORY, SHUT, SIZES = (
-    f"tests/program/test_{it}.py" for it in ("cache", "causes", "controls", "ends", "refused_memory", "shut", "sizes"))
+CACHE, CAUSES, CLOCK, CONTROLS, ENDS, MEMORY, SHUT, SIZES = (
+    f"tests/program/test_{it}.py"
+    for it in ("cache", "causes", "clock", "controls", "ends", "refused_memory", "shut", "sizes"))
+ORDER = "tests/program/test_order.py::test_clients_that_wait_are_answered_in_their_order"
 # by the name of an edit, the test that fails
 CAUGHT_BY = {
     "crashes_index_is_told_before_it_is_made": f"{CRASHES}::test_a_crash_leaves_what_was_answered[init-0]",
@@ -32,7 +34,7 @@ CAUGHT_BY = {
     "pip_clock_is_read_once": f"{GONE}::test_a_case_has_the_moment_of_the_clock",
     "pip_flush_that_failed_is_not_told":
         f"{GONE}::test_a_client_that_is_gone_before_its_reply_is_told_by_one_line_and_its_request_stands",
-    "messages_accepted_connection_is_forgotten": f"{MESSAGES}::test_answered_before_the_client_ends_its_side",
+    "messages_accepted_connection_is_forgotten": ORDER,
     "messages_fourth_accept_header_is_want_of_memory": f"{MESSAGES}::test_the_type_is_chosen_by_all_accept_headers",
     "messages_reply_ends_in_a_byte_more": f"{MESSAGES}::test_answered_before_the_client_ends_its_side",
     "messages_reply_waits_for_the_end_of_the_input": f"{MESSAGES}::test_answered_before_the_client_ends_its_side",
@@ -41,9 +43,10 @@ CAUGHT_BY = {
     "program_apply_reads_sixteen_mebibytes": f"{SIZES}::test_lines_in_memory[many-bytes]",
     "program_calls_of_the_files_tell_no_cause": f"{CAUSES}::test_a_call_that_fails_on_a_database_of_version_1",
     "program_check_prints_at_most_nine": f"{ENDS}::test_check_counts_wrong_charges",
+    "program_clock_that_fails_is_1970":
+        f"{CLOCK}::test_a_clock_that_gives_no_moment_ends_serve_before_anything_is_done",
     "program_each_address_is_localhost": f"{ENDS}::test_serve_listens_where_it_is_asked_to_and_says_where",
-    "program_last_client_is_answered_first": "tests/program/test_order.py::"
-                                             "test_clients_that_wait_are_answered_in_their_order",
+    "program_last_client_is_answered_first": ORDER,
     "program_mistake_is_printed_as_it_is": f"{CONTROLS}::test_a_mistake_is_printed_with_its_line_feeds_alone",
     "program_path_is_printed_as_it_is": f"{CONTROLS}::test_a_path_is_printed_without_controls",
     "program_row_of_one_name_ends_the_server":
@@ -56,10 +59,10 @@ CAUGHT_BY = {
         f"{SHUT}::test_an_invalid_row_is_a_fault_of_the_store_and_not_of_memory",
     "program_want_of_memory_is_not_told":
         f"{MEMORY}::test_a_message_gets_its_reply_or_a_fault_that_changed_nothing",
-    "program_want_of_memory_is_told_as_store":
-        f"{MEMORY}::test_a_line_gets_its_verdict_or_a_fault_that_changed_nothing",
+    "program_words_without_memory_are_told_as_store": f"{MEMORY}::test_init_makes_an_index_or_none[share-0]",
     "sizes_first_file_alone_is_found_again": f"{CACHE}::test_files_are_found_again_and_the_oldest_goes_first",
     "sizes_json_page_is_never_found_again": f"{CACHE}::test_a_page_is_found_again",
+    "sizes_long_page_of_a_project_is_never_gathered": f"{CACHE}::test_a_long_page_is_found_again",
     "sizes_newest_file_goes_first": f"{CACHE}::test_files_are_found_again_and_the_oldest_goes_first",
     "sizes_no_more_is_kept_than_by_default":
         f"{CACHE}::test_what_is_kept_takes_as_much_memory_as_it_may_and_no_more[more-than-by-default]",
@@ -68,6 +71,7 @@ CAUGHT_BY = {
     "sizes_root_page_is_never_found_again": f"{CACHE}::test_a_page_is_found_again",
     "sizes_root_page_of_eight_mebibytes_is_want_of_memory":
         f"{SIZES}::test_a_root_page_of_above_eight_mebibytes[HTML]",
+    "sizes_text_keeps_the_room_that_it_grew_into": f"{CACHE}::test_a_long_page_is_found_again",
     "sizes_ten_times_as_much_is_kept_by_default":
         f"{CACHE}::test_what_is_kept_takes_as_much_memory_as_it_may_and_no_more[by-default]",
 }

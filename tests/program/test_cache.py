@@ -57,6 +57,7 @@ def costs_of_files(program, path, refusals, keep, chance):
         return first, newest_first, two
 
 
+@pytest.mark.slow
 def test_files_are_found_again_and_the_oldest_goes_first(program, folder, refusals, chance, looked):
     """Four of them are kept: behind six looks the last four, of which none is found anew when it is looked at again."""
     kept = costs_of_files(program, f"{folder}/kept.db", refusals, 4 * MEBIBYTE, chance)
@@ -68,25 +69,32 @@ def test_files_are_found_again_and_the_oldest_goes_first(program, folder, refusa
     looked(all(it >= least for it in kept[1][4:]), "the oldest two", kept[1], least)
 
 
-def fill(path, count):
-    """Adds so many names, and so many files of the name `frob`, that are the bytes `abc`."""
+def fill(path, names, files):
+    """Adds these names, and the name `frob` with these files, that are the bytes `abc`."""
     digest = bytes.fromhex(sha256(b"abc"))
     with closing(sqlite3.connect(path)) as database:
-        held = [("frob", 1, "frob", 1 << 40, 3 * count, count, 11),
-                *((f"n{number}", 1, f"n{number}", 1 << 30, 0, 0, None) for number in range(count))]
+        held = [("frob", 1, "frob", 1 << 40, 3 * len(files), len(files), 11),
+                *((name, 1, name, 1 << 30, 0, 0, None) for name in names)]
         database.executemany("INSERT INTO names VALUES (?, ?, ?, ?, ?, ?, ?)", held)
         database.executemany("INSERT INTO owners VALUES (?, 'office')", [(row[0],) for row in held])
-        files = [f"frob-{number}.tar.gz" for number in range(count)]
         database.executemany("INSERT INTO files VALUES (?, ?, ?, ?, ?, ?, ?)",
                              [(file, "frob", file[5:-7], digest, 3, "", 1) for file in files])
         database.executemany("INSERT INTO blobs VALUES (?, ?)", [(file, b"abc") for file in files])
         database.commit()
 
 
+def names(count, width=1):
+    return [f"n{number:0>{width}}" for number in range(count)]
+
+
+def files(count, width=1):
+    return [f"frob-{number:0>{width}}.tar.gz" for number in range(count)]
+
+
 @pytest.mark.parametrize("accept", TYPES)
 @pytest.mark.parametrize("path", ["/simple/", "/simple/frob/"], ids=["root-page", "page-of-a-project"])
 def test_a_page_is_found_again(program, index_file, refusals, looked, path, accept):
-    fill(index_file, MANY)
+    fill(index_file, names(MANY), files(MANY))
     costs = {}
     for keep in (8 * MEBIBYTE, 0):
         with Counted(program, index_file, refusals, keep) as index:
@@ -94,6 +102,21 @@ def test_a_page_is_found_again(program, index_file, refusals, looked, path, acce
     kept, none = costs.values()
     looked(kept[0] >= min(none), "at first it is made", kept, none)
     looked(max(kept[1:]) < min(none) / 2, "it is found again", kept, none)
+
+
+# by path, names or files whose page has 250 bytes in HTML for each
+LONG = {"/simple/": lambda count: (names(count, 110), []), "/simple/frob/": lambda count: ([], files(count, 60))}
+
+
+@pytest.mark.parametrize("count, keep", [
+    pytest.param(17_500, 8 * MEBIBYTE, id="above-four-mebibytes", marks=pytest.mark.slow),
+    pytest.param(2_900, 730_000, id="as-long-as-all-that-is-cached")])
+@pytest.mark.parametrize("path", LONG, ids=["root-page", "page-of-a-project"])
+def test_a_long_page_is_found_again(program, index_file, refusals, looked, count, keep, path):
+    fill(index_file, *LONG[path](count))
+    with Counted(program, index_file, refusals, keep) as index:
+        costs = [index.cost(path, Accept="text/html") for _ in range(3)]
+    looked(max(costs[1:]) < costs[0] / 10, "it is found again", costs)
 
 
 # memory

@@ -301,7 +301,7 @@ def as_nobody(program, refused, folder):
 def test_no_right_to_the_file(as_nobody, looked):
     os.chmod(as_nobody.path, 0o000)
     reads = subprocess.run([*as_nobody.by, "cat", as_nobody.path], stdout=subprocess.DEVNULL, stderr=subprocess.DEVNULL,
-                           timeout=10)
+                           timeout=60)
     looked(reads.returncode != 0, "a file of no rights can be read")
     as_nobody(NO_RIGHT)
     os.chmod(as_nobody.path, 0o444)

@@ -19,7 +19,7 @@ from support.workload import REQUESTS, lines_of
 ROUNDS_OF_ALL, BATCHES = 10_000, 20
 STATUSES = {200, 201, 301, 400, 401, 403, 404, 405, 406, 409, 411, 413, 422}
 ENDS = {b"index: connection: ReadFault", b"index: connection: WriteFault", b"index: connection: Cut"}
-PATIENCE = 10
+PATIENCE = 60
 # up to so many bytes come in one piece, and are taken in before the connection is closed
 AT_ONCE = 4_000
 LOOKED_AT = ("/simple/", "/simple/frob/", "/simple/egg/", "/names/frob", "/names/spam", "/names/egg",
@@ -50,8 +50,8 @@ def index(program, filled_index, folder, looked):
 
 
 def shown(port):
-    """What a reader of the index sees."""
-    return [reply_to(port, f"GET {path} HTTP/1.1\r\n\r\n".encode()) for path in LOOKED_AT]
+    """What a reader of the index sees, who ends its side: that no reply waits for that is asked by a test."""
+    return [ends_its_side(port, f"GET {path} HTTP/1.1\r\n\r\n".encode(), None)[0] for path in LOOKED_AT]
 
 
 def read_all(peer):

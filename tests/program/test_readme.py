@@ -3,6 +3,7 @@ from __future__ import annotations
 
 import os
 import re
+import runpy
 import shutil
 import subprocess
 import sys
@@ -13,8 +14,11 @@ from support.places import TOP
 from support.ports import free_port
 from support.running import run
 
-BLOCK = re.compile(r"index apply <<'LINES'\n(.*?)LINES\n```\n\n```\n(.*?)```\n", re.S)
-PATIENCE = 120
+BLOCK = re.compile(r"```sh\n(\S*index apply <<'LINES'\n.*?LINES\n)```\n\n```\n(.*?)```\n", re.S)
+PATIENCE, PATIENCE_OF_A_BUILD = 120, 3_000
+ROOMS = "tools", "tests", "indexctl", "server", "bench"
+PROVED, UNPROVED = "crates/index/out/index", "crates/index/try/index"
+needs_pip = pytest.mark.skipif(not find_spec("pip"), reason="python3-pip is not installed")
 
 
 def read(page):
@@ -22,43 +26,104 @@ def read(page):
         return kept.read()
 
 
+def copy_rooms(folder, *rooms):
+    """Copies rooms of the repository, without what was built there."""
+    for room in rooms:
+        built = "__pycache__", "out", *(["try"] if room == "crates" else [])
+        shutil.copytree(f"{TOP}/{room}", f"{folder}/{room}", ignore=shutil.ignore_patterns(*built))
+    for name in ("CHANGELOG.md", "HANDLES", "crates.txt"):
+        shutil.copy(f"{TOP}/{name}", folder)
+
+
 @pytest.fixture
-def clone(program, folder):
-    """A folder with what `tools/try` takes of a clone, in which the program is built."""
-    for room in ("tools", "tests/support", "indexctl", "server/lib"):
-        shutil.copytree(f"{TOP}/{room}", f"{folder}/{room}", ignore=shutil.ignore_patterns("__pycache__"))
-    os.makedirs(f"{folder}/crates/index/out")
-    shutil.copy(program, f"{folder}/crates/index/out/index")
+def bare(folder):
+    """A clone without its crates, in which nothing is built."""
+    copy_rooms(folder, *ROOMS)
     return folder
 
 
-def pasted(line, clone):
+@pytest.fixture(params=[pytest.param(PROVED, id="proved", marks=pytest.mark.slow),
+                        pytest.param(UNPROVED, id="not_proved")])
+def clone(request, program, bare):
+    """A clone in which the program is built, by `tools/build` or else by `tools/try`."""
+    place = f"{bare}/{request.param}"
+    os.makedirs(os.path.dirname(place))
+    shutil.copy(program, place)
+    if request.param == UNPROVED:
+        with open(f"{place}.sources", "w", encoding="utf-8") as stamp:
+            stamp.write(runpy.run_path(f"{bare}/tools/try")["sources"]())
+    return bare
+
+
+def pasted(line, clone, patience=PATIENCE):
     """The end of a line that is pasted into a shell in the clone."""
     return subprocess.run(["bash", "-c", line], cwd=clone, text=True, stdout=subprocess.PIPE, stderr=subprocess.STDOUT,
-                          timeout=PATIENCE)
+                          timeout=patience)
 
 
-def test_the_lines_of_the_readme_get_the_answers_that_it_shows(program):
-    blocks = BLOCK.findall(read("README.md"))
-    assert len(blocks) == 1, "the README has one block of lines, and behind it their answers"
-    lines, answers = blocks[0]
-    ended = run(program, "apply", given=lines.encode())
-    assert (ended.returncode, ended.stdout.decode(), ended.stderr) == (0, answers, b"")
+def test_the_lines_of_the_readme_get_the_answers_that_it_shows(clone, looked):
+    page = read("README.md")
+    found = BLOCK.findall(page)
+    assert len(found) == 1, "the README has one block of lines, and behind it their answers"
+    asked, answers = found[0]
+    looked(asked.startswith(f"{UNPROVED} ") and f"proved is `{PROVED}`" in page, asked)
+    if not os.path.exists(f"{clone}/{UNPROVED}"):
+        asked = asked.replace(UNPROVED, PROVED)
+    ended = pasted(asked, clone)
+    looked((ended.returncode, ended.stdout) == (0, answers), asked, ended.stdout)
 
 
-@pytest.mark.skipif(not find_spec("pip"), reason="python3-pip is not installed")
-def test_tools_try_ends_with_lines_that_work_as_they_stand(clone, looked):
-    ended = pasted(f"{sys.executable} tools/try", clone)
+def goes_on(ended, clone, looked):
+    """Looks whether `tools/try` let pip install, and whether the lines that it printed last work as they stand."""
     looked(ended.returncode == 0 and "Successfully installed frob-1.0" in ended.stdout, ended.stdout)
     port = free_port()
-    serve, *others = [it.strip().replace(":8080", f":{port}") for it in ended.stdout.splitlines()[-3:]]
+    serve, *others = [it.strip().replace(":8080", f":{port}") for it in ended.stdout.splitlines()[-4:]]
     with subprocess.Popen(["bash", "-c", f"exec {serve}"], cwd=clone, text=True, stdout=subprocess.PIPE) as serving:
         try:
             looked(serving.stdout.readline() == f"listening on 127.0.0.1:{port}\n", serve)
             said = [pasted(line, clone) for line in others]
-            looked([it.returncode for it in said] == [0, 0] and "spam" in said[1].stdout, [it.stdout for it in said])
+            looked([it.returncode for it in said] == [0, 0, 0], [it.stdout for it in said])
+            looked("1 of 1 files are there" in said[1].stdout, said[1].stdout)
+            looked("Successfully installed spam-1.0" in said[2].stdout, said[2].stdout)
         finally:
             serving.terminate()
+
+
+@needs_pip
+def test_tools_try_ends_with_lines_that_work_as_they_stand(clone, looked):
+    ended = pasted(f"{sys.executable} tools/try", clone)
+    looked("NOT PROVED" in ended.stdout or os.path.exists(f"{clone}/{PROVED}"), ended.stdout)
+    goes_on(ended, clone, looked)
+
+
+@needs_pip
+@pytest.mark.slow
+@pytest.mark.timeout(PATIENCE_OF_A_BUILD)
+@pytest.mark.xdist_group("builds")
+@pytest.mark.skipif(not shutil.which("rt"), reason="the kit is not installed, with which the program is built")
+def test_tools_try_builds_the_program_where_nothing_is_built(bare, looked):
+    copy_rooms(bare, "crates")
+    ended = pasted(f"{sys.executable} tools/try", bare, PATIENCE_OF_A_BUILD)
+    goes_on(ended, bare, looked)
+    told = pasted(f"{UNPROVED} --version", bare)
+    looked("NOT PROVED" in told.stdout and not os.path.exists(f"{bare}/{PROVED}"), told.stdout)
+
+
+@pytest.mark.parametrize("command", ["tests/run --quick", "tools/package", "bench/bench", "bench/bench-behind-nginx",
+                                     f"{sys.executable} -B -m pytest tests/program -k readme"])
+def test_where_nothing_is_built_a_command_says_how_it_is(bare, command, looked):
+    ended = pasted(command, bare)
+    looked(ended.returncode != 0 and "tools/build" in ended.stdout and "Traceback" not in ended.stdout,
+           command, ended.stdout)
+
+
+@pytest.mark.parametrize("command", ["tools/try", "tools/build"])
+def test_without_the_kit_a_command_says_where_one_is_had(bare, command, looked):
+    os.mkdir(f"{bare}/bin")
+    os.symlink(sys.executable, f"{bare}/bin/python3")
+    ended = pasted(f"PATH={bare}/bin {command}", bare)
+    looked(ended.returncode == 1 and "README.md says which kit you need" in ended.stdout
+           and "Traceback" not in ended.stdout, command, ended.stdout)
 
 
 def test_each_command_of_the_readme_is_there_and_says_what_it_does(looked):
@@ -78,3 +143,37 @@ def test_the_readme_names_the_versions_of_the_changelog_and_of_the_program(progr
     looked(set(re.findall(r"\b\d+\.\d+\.\d+\b", said)) == {newest, *coming}, said)
     told = run(program, "--version").stdout.decode().split()[1]
     looked(f"`index --version` prints {told}" in said, told)
+
+
+def first_numbers(row):
+    """The first number of each cell of a table's row."""
+    found = (re.match(r" ([\d,]+)\b", cell) for cell in row.split("|"))
+    return [int(it[1].replace(",", "")) for it in found if it]
+
+
+def test_the_rates_of_the_readme_are_those_of_the_last_measurement(looked):
+    """Within a fifth, by which they differ from run to run."""
+    told = re.search(r"about ([\d,]+) pages of 100 files a second \(nginx alone ([\d,]+)\), ([\d,]+) compressed as pip "
+                     r"asks \(([\d,]+)\), and ([\d,]+) files of 1 MiB \(([\d,]+)\)", read("README.md"))
+    assert told
+    rows = {row.split("|")[1].strip(): first_numbers(row) for row in read("docs/operators/PERFORMANCE.md").splitlines()
+            if row.startswith("| ")}
+    page = next(it for it in rows if it.startswith("page of 100 files,") and "gzip" not in it)
+    _, *plain = rows[page]
+    measured = [*plain[:2], *rows[f"{page}, gzip as pip asks"], *rows["file of 1,048,576 bytes"][1:3]]
+    for said, real in zip(told.groups(), measured, strict=True):
+        looked(abs(int(said.replace(",", "")) / real - 1) < 0.2, said, real)
+
+
+@pytest.mark.parametrize("said, page, there", [
+    ("at most 16 MiB", "crates/index_rules/src/decision/files.rt", "LARGEST_BODY: usize = 16_777_216;"),
+    ("about six seconds and as much memory as the file is long, for each GiB", "docs/operators/SCALING.md",
+     "with 1.08 times the bytes for memory"),
+    ("about six seconds", "docs/operators/SCALING.md", "with 6 s for each GiB"),
+    ("20 MiB, 150 MiB after uploads of 16 MiB", "docs/operators/OPERATING.md",
+     "20 MiB, or 150 MiB after uploads of 16 MiB, and up to 256 MiB of cached files and pages"),
+    ("up to 256 MiB of cached files", "crates/index/src/serving.rt", "KEPT_BYTES: u64 = 268_435_456;"),
+    ("Keep an index below [5 GB]", "docs/operators/SCALING.md", "So keep an index below 5 GB"),
+])
+def test_the_figures_of_the_readme_are_those_of_their_sources(said, page, there):
+    assert said in read("README.md") and there in read(page)

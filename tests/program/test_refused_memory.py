@@ -15,7 +15,8 @@ from support.serving import OFFICE
 from support.subcommands import NO_ADDRESS, End, words_of
 from support.workload import REQUESTS, lines_of
 
-IN_MEMORY = pytest.mark.parametrize("is_in_memory", [True, False], ids=["in-memory", "on-a-database"])
+IN_MEMORY = pytest.mark.parametrize("is_in_memory", [
+    pytest.param(True, id="in-memory"), pytest.param(False, id="on-a-database", marks=pytest.mark.slow)])
 NO_LISTENING = f"index: Listen\nindex: {NO_ADDRESS[1]}: not an IP address with a port\n".encode()
 # whole runs are shared out among so many tests
 SHARES = 4

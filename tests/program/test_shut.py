@@ -34,7 +34,7 @@ def is_held(index, name):
 def end_of(index):
     """The status with which the server ends by itself, or None if it goes on; and what it said."""
     try:
-        return index.process.wait(timeout=10), index.errors()
+        return index.process.wait(timeout=60), index.errors()
     except subprocess.TimeoutExpired:
         return None, index.errors()
 

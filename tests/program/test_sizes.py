@@ -123,6 +123,7 @@ def test_lines_on_a_database(are_answered, is_sound, index_file, looked, which):
     looked(is_sound(index_file), "check")
 
 
+@pytest.mark.slow
 def test_1100_owners(are_answered):
     are_answered(many_of_each(OWNERS))
 
@@ -155,6 +156,7 @@ def test_a_request_has_as_many_bytes_as_it_may(index, looked):
     looked(index.ask("GET", "/simple/more/")[0] == 404, "what was too large is not there")
 
 
+@pytest.mark.slow
 def test_a_file_has_as_many_bytes_as_it_may(program, index_file, is_sound, chance, looked):
     with Index(program, path=index_file) as index:
         index.claim("frob")
@@ -253,6 +255,9 @@ def test_a_root_page_of_above_eight_mebibytes(program, is_proved, index_file, lo
     names = [f"{number:0>{LENGTH}}" for number in range(LONG_PAGES[kind])]
     accept, wanted = (JSON_PAGE, json_root(names)) if kind == "JSON" else ("text/html", html_root(names))
     looked(len(wanted) > 8 << 20, "it is long", len(wanted))
-    with Index(program, path=fill(index_file, names, []), patience=600) as index:
-        differs = page_differs(index, "/simple/", accept, wanted)
-        looked(not differs, differs)
+    fill(index_file, names, [])
+    for keep in (None, 0):
+        with Index(program, path=index_file, patience=600, keep=keep) as index:
+            for _ in range(2):
+                differs = page_differs(index, "/simple/", accept, wanted)
+                looked(not differs, keep, differs)

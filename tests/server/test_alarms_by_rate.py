@@ -59,8 +59,9 @@ def watched(folder):
 
 def test_a_disk_that_fills_is_told_once_a_day(watched):
     def fills(state):
+        # also if other tests fill or free a third of the disk meanwhile
         at, boot, up, room, restarts = state["day"][0]
-        state["day"][0] = [at - 10 * HOUR, boot, up - 10 * HOUR, {watched.folder: room[watched.folder] * 9}, restarts]
+        state["day"][0] = [at - 10 * HOUR, boot, up - 10 * HOUR, {watched.folder: room[watched.folder] * 6}, restarts]
 
     watched.change(fills)
     assert_ends(watched.run(), 9, f"the disk of {watched.folder} is full in 0.1 days, at the rate of the last 10 hours")

@@ -1,9 +1,12 @@
 """nginx's log of changes: each change is a line of JSON, with what was asked and never with a token."""
+import base64
 import json
+import os
 import re
 
 import pytest
-from support.server.front import Front
+from support.running import run_command
+from support.server.front import Front, kept
 from support.server.waits import wait_for
 from support.serving import accepted, sha256
 
@@ -14,7 +17,7 @@ FILE = "/files/logged/logged-1.0.tar.gz"
 
 def logged(front: Front, number: int) -> list:
     """The lines of the log, once there are so many: nginx writes a line after its reply."""
-    wait_for(lambda: len(front.changes()) >= number, seconds=10)
+    wait_for(lambda: len(front.changes()) >= number)
     return front.changes()
 
 
@@ -61,3 +64,35 @@ def test_a_long_body_is_in_the_log(front):
     front.ask("POST", "/requests", body, X_Index_Token="office")
     last = logged(front, 1)[-1]
     assert last["body"] == body, (last["status"], len(last["body"]))
+
+
+class TestReader:
+    """A line names who read a password, and nobody whose name no password was asked for."""
+
+    def user_of(self, front: Front, method: str, path: str, password: str) -> str:
+        before = len(front.changes()) if os.path.exists(f"{front.folder}/index-changes.log") else 0
+        secret = base64.b64encode(f"ann:{password}".encode()).decode()
+        front.ask(method, path, b"x", Authorization=f"Basic {secret}")
+        return logged(front, before + 1)[-1]["user"]
+
+    def test_no_name_is_believed_where_no_password_is_asked_for(self, front):
+        assert self.user_of(front, "POST", "/requests", "right") == ""
+
+    @pytest.fixture
+    def locked(self, kept_index, certificate, folder):
+        """nginx as password.conf and legacy.conf have it, for a reader `ann`."""
+        front = Front(f"{folder}/locked", certificate, kept_index.port)
+        front.put("index/server.d/legacy.conf", kept("legacy.conf"))
+        front.put("index/server.d/password.conf", kept("password.conf"),
+                  **{"/etc/nginx/index/readers.htpasswd": f"{folder}/readers"})
+        hashed = run_command(["openssl", "passwd", "-apr1", "right"]).stdout
+        with open(f"{folder}/readers", "w", encoding="ascii") as made:
+            made.write(f"ann:{hashed}")
+        with front:
+            yield front
+
+    @pytest.mark.parametrize("path, password, user", [
+        ("/requests", "right", "ann"), ("/files/frob/frob-1.tar.gz", "right", "ann"), ("/requests", "wrong", ""),
+        ("/legacy/", "right", "")])
+    def test_a_name_is_that_of_a_right_password(self, locked, path, password, user):
+        assert self.user_of(locked, "PUT" if "files" in path else "POST", path, password) == user

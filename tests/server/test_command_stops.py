@@ -1,18 +1,16 @@
-"""index-reseal and index-backup: after a signal or a kill at any step, the database has what it had, and a
-second run does what was asked for."""
+"""index-reseal and index-backup: after a signal or a kill at any step, also in the midst of a copy, the database has
+what it had, and a second run does what was asked for."""
 import os
 import shutil
 import signal
-import sys
 
 import pytest
 from support.places import BIN
 from support.running import kill_after, run_command
 from support.server.restores import names_of
-from support.server.stops import NOT_REACHED, STOPPED
+from support.server.stops import SIGNALS, ended_before, halved, is_reached
 from support.serving import make_index
 
-SIGNALS = signal.SIGINT, signal.SIGTERM, signal.SIGHUP, signal.SIGKILL
 COMMANDS = {
     "reseal": lambda at: [f"{BIN}/index-reseal", f"{at}/index.db", f"{at}/sealed.db"],
     "backup": lambda at: [f"{BIN}/index-backup", f"{at}/index.db", f"{at}/copies"],
@@ -37,30 +35,47 @@ def results(at):
     return whole, left
 
 
+def look_again(program, at, command, number, looked, ended):
+    """What is there after a run that ended so, and after one more."""
+    said = command, number, ended.returncode, ended.stdout
+    looked(names_of(f"{at}/index.db", os.path.dirname(at)) == ["later"], *said)
+    whole, left = results(at)
+    looked(all(names_of(it, os.path.dirname(at)) == ["later"] for it in whole), *said)
+    looked(number == signal.SIGKILL or left == [], left, *said)
+    if command == "reseal" and whole:
+        # it was done: the page says to remove the file and to begin again
+        os.remove(f"{at}/sealed.db")
+    again = run_command(COMMANDS[command](at), INDEX=program)
+    whole, left = results(at)
+    looked(again.returncode == 0 and left == [] and len(whole) > 0, again.stdout, left, *said)
+    looked(names_of(f"{at}/index.db", os.path.dirname(at)) == ["later"], *said)
+    shutil.rmtree(at)
+
+
 @pytest.mark.slow
+@pytest.mark.timeout(1800)
 @pytest.mark.parametrize("number", SIGNALS)
 @pytest.mark.parametrize("command", COMMANDS)
 def test_stopped_at_each_step_nothing_is_lost_and_a_second_run_does_it(program, made, folder, looked, command, number):
-    step, is_reached = 0, True
-    while is_reached:
+    step, has_more = 0, True
+    while has_more:
         at = shutil.copytree(made, f"{folder}/{step}")
-        words = COMMANDS[command](at)
-        ended = run_command([sys.executable, "-c", STOPPED, str(step), str(int(number)), *words], INDEX=program)
-        is_reached = NOT_REACHED not in ended.stdout
-        said = command, step, number, ended.returncode, ended.stdout
-        looked(ended.returncode == (-number if is_reached else 0), *said)
-        looked(names_of(f"{at}/index.db", folder) == ["later"], *said)
-        whole, left = results(at)
-        looked(all(names_of(it, folder) == ["later"] for it in whole), *said)
-        looked(number == signal.SIGKILL or left == [], left, *said)
-        if command == "reseal" and whole:
-            # it was done: the page says to remove the file and to begin again
-            os.remove(f"{at}/sealed.db")
-        again = run_command(words, INDEX=program)
-        whole, left = results(at)
-        looked(again.returncode == 0 and left == [] and len(whole) > 0, again.stdout, left, *said)
-        looked(names_of(f"{at}/index.db", folder) == ["later"], *said)
-        shutil.rmtree(at)
+        ended = ended_before(step, number, COMMANDS[command](at), INDEX=program)
+        has_more = is_reached(ended)
+        looked(ended.returncode == (-number if has_more else 0), command, step, number, ended.returncode, ended.stdout)
+        look_again(program, at, command, number, looked, ended)
         step += 1
     print(f"{command}: {step - 1} steps by {number.name}")
     assert step > 2
+
+
+@pytest.mark.parametrize("number", SIGNALS)
+@pytest.mark.parametrize("command", COMMANDS)
+def test_stopped_in_the_midst_of_a_copy_nothing_is_lost_and_a_second_run_does_it(program, made, folder, looked, command,
+                                                                                 number):
+    for copy in range(2):
+        at = shutil.copytree(made, f"{folder}/{copy}")
+        os.mkdir(f"{folder}/{number}-{copy}")
+        ended = run_command(COMMANDS[command](at), INDEX=program, **halved(f"{folder}/{number}-{copy}", copy, number))
+        looked(ended.returncode == -number, command, copy, number, ended.returncode, ended.stdout)
+        look_again(program, at, command, number, looked, ended)

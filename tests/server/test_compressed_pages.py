@@ -39,6 +39,7 @@ def assert_replies_of(index, front, asked, looked):
             looked(not found, trial, method, path, headers, found)
 
 
+@pytest.mark.slow
 def test_replies_at_random_are_those_of_the_index_over_changes(round_number, kept_index, front, chance, looked):
     for at in range(3):
         changes(kept_index, chance, f"{round_number}.{at}")
@@ -86,10 +87,11 @@ class TestAway:
     def test_another_page_waits_for_the_index(self, said, filled_index, front):
         with filled_index.away():
             page = Asked(front.ask, "GET", "/simple/frob/", Accept=PIP, Accept_Encoding=said)
-            time.sleep(0.5)
+            assert wait_for(lambda: front.has_met_nobody("GET /simple/frob/"))
         assert_reply(page.ended(), 200, JSON_PAGE)
         assert unpacked(page.reply) == filled_index.ask("GET", "/simple/frob/", Accept=PIP)[2]
 
+    @pytest.mark.slow
     def test_after_the_waits_a_client_is_told_to_come_again(self, filled_index, front, looked):
         with filled_index.away():
             pages = [Asked(front.ask, method, "/simple/frob/", Accept=PIP, Accept_Encoding=said)

@@ -10,7 +10,8 @@ from support.library import front as library
 from support.places import SERVER
 from support.running import run_command
 from support.server.expected import assert_ends
-from support.server.front import Front, make_certificate
+from support.server.front import Front, has_ipv6, make_certificate
+from support.server.manager import workers
 from support.server.stand_ins import called, stand_ins
 from support.server.waits import wait_for
 from support.server.watched import HEALTH, look_at_health, unit
@@ -33,8 +34,21 @@ def words_for(front):
     return "--front", f"{front.folder}/conf.d/packages.conf", f"http://{address}"
 
 
-def look(front, *words):
-    return run_command([*HEALTH, "--patience", "1", *words, *words_for(front)])
+def look(front, *words, patience="60"):
+    return run_command([*HEALTH, "--patience", patience, *words, *words_for(front)], 200)
+
+
+def look_until(status, look):
+    """The end of a look with little patience. It is made again if it ends otherwise: on a busy machine the index, which
+    is well, may be late too."""
+    seen = []
+
+    def is_seen():
+        seen.append(look())
+        return seen[-1].returncode == status
+
+    wait_for(is_seen)
+    return seen[-1]
 
 
 def test_an_nginx_that_answers_by_its_name_is_well(named):
@@ -44,21 +58,53 @@ def test_an_nginx_that_answers_by_its_name_is_well(named):
 def test_an_nginx_that_is_stopped_is_told_and_the_index_is_not_restarted(named, folder):
     named.process.terminate()
     named.process.wait()
-    path = stand_ins(f"{folder}/bin", systemctl="")
-    ended = look_at_health(path, "--patience", "0.5", *words_for(named))
+
+    def looks():
+        shutil.rmtree(f"{folder}/bin", ignore_errors=True)
+        return look_at_health(stand_ins(f"{folder}/bin", systemctl=""), "--patience", "0.5", *words_for(named))
+
+    ended = look_until(10, looks)
     assert_ends(ended, 10, f"nginx does not answer for {HOST} at port {named.port}: ConnectionRefused")
     assert called(f"{folder}/bin") == ""
 
 
 def test_an_nginx_that_hangs_is_told(named):
+    assert wait_for(lambda: len(workers(named.process.pid)) == 2)
     for child in [named.process.pid, *map(int, run_command(["pgrep", "-P", str(named.process.pid)]).stdout.split())]:
         os.kill(child, signal.SIGSTOP)
     try:
-        assert_ends(look(named), 10, "nginx does not answer", "TimeoutError")
+        assert_ends(look_until(10, lambda: look(named, patience="1")), 10, "nginx does not answer", "TimeoutError")
     finally:
         for child in run_command(["pgrep", "-P", str(named.process.pid)]).stdout.split():
             os.kill(int(child), signal.SIGCONT)
         os.kill(named.process.pid, signal.SIGCONT)
+
+
+def test_each_nginx_is_asked_at_its_address_and_those_that_are_gone_are_told(named):
+    there = ["--at", "127.0.0.1", *(["--at", "::1"] if has_ipv6() else [])]
+    assert_ends(look(named, *there), 0)
+    ended = look(named, "--at", "127.0.0.2", *there, "--at", "no-such-front.invalid")
+    assert_ends(ended, 10, "127.0.0.2: nginx does not answer for", "no-such-front.invalid: nginx does not answer for")
+    assert "127.0.0.1:" not in ended.stdout and "::1:" not in ended.stdout
+
+
+def test_a_certificate_of_one_nginx_of_several_is_told(front):
+    assert_ends(look(front, "--at", "127.0.0.1"), 10, f"127.0.0.1: nginx's certificate for {HOST}: Hostname mismatch")
+
+
+def test_several_nginx_are_asked_by_a_file_that_is_there(named, folder):
+    index = words_for(named)[-1]
+    ended = run_command([*HEALTH, "--front", f"{folder}/none.conf", "--at", "127.0.0.1", index])
+    assert_ends(ended, 1, f"{folder}/none.conf", "127.0.0.1")
+    assert_ends(run_command([*HEALTH, "--at", "127.0.0.1", index]), 2, "--at wants --front")
+
+
+def test_the_unit_for_several_nginx_asks_each_and_reaches_no_other():
+    usual, other = unit("index-health.service"), unit("several-fronts.conf")
+    asked = re.findall(r"--at (\S+)", other)
+    assert f"IPAddressAllow={' '.join(asked)}\n" in other and len(asked) == 2
+    rooms = [it for it in re.findall(r"--room \S+", usual) if it != "--room /var/cache/nginx"]
+    assert re.findall(r"--room \S+", other) == rooms and "http://127.0.0.1:8080\n" in other
 
 
 def test_a_certificate_for_another_name_is_told(front):
@@ -95,8 +141,17 @@ def test_readers_that_need_a_password_are_no_fault_and_an_answer_of_another_kind
         with open(conf, "w") as made:
             made.write(whole.replace("location = /health {", "location = /well {"))
         named.process.send_signal(signal.SIGHUP)
-        wait_for(lambda: look(named).returncode == status and said in look(named).stdout, seconds=20)
-        assert_ends(look(named), status, said)
+        assert_ends(look_until(status, lambda: look(named, patience="1")), status, said)
+
+
+def test_nginx_tells_that_a_disk_is_full_until_a_look_finds_room(named, folder):
+    path, full = stand_ins(f"{folder}/bin", systemctl=""), f"{named.folder}/index-full"
+    words = words_for(named)
+    for least, status, answer in (("0", 0, 200), ("99999999", 9, 507), ("99999999", 9, 507), ("0", 0, 200)):
+        assert_ends(look_at_health(path, "--room", folder, "--least", least, *words, full=full), status)
+        curl = ["curl", "-ksw", "%{http_code}", "-o", "/dev/null", f"{named.url}/health"]
+        assert_ends(run_command(curl), 0, str(answer))
+    assert called(f"{folder}/bin") == ""
 
 
 def test_no_nginx_of_this_index_is_asked_for_without_its_file(index, folder):
@@ -108,11 +163,18 @@ def test_no_nginx_of_this_index_is_asked_for_without_its_file(index, folder):
     ("server_name a.b;\n listen 443 ssl;", ("a.b", 443)),
     ("  server_name a.b c.d;\nlisten [::]:8443 ssl http2;", ("a.b", 8443)),
     ("server_name a.b;\nlisten 10.0.0.1:444 ssl;\n", ("a.b", 444)), ("server_name a.b;\nlisten 80;", None),
-    ("# server_name a.b;\nlisten 443 ssl;", None), ("server_name a.b;\n# listen 443 ssl;", None)])
+    ("server_name a.b;\n# listen 443 ssl;", None)])
 def test_the_name_and_the_port_are_those_of_the_file(tmp_path, text, found):
     (tmp_path / "conf").write_text(text)
-    assert library.front_of(f"{tmp_path}/conf") == found
-    assert library.front_of(f"{SERVER}/nginx/packages.conf") == (HOST, 443)
+    assert library.front_of(f"{tmp_path}/conf") == (found and library.Front(*found))
+    assert library.front_of(f"{SERVER}/nginx/packages.conf") == library.Front(HOST, 443)
+
+
+@pytest.mark.parametrize("text", ["", "# server_name a.b;\nlisten 443 ssl;"])
+def test_a_file_of_nginx_that_was_cut_off_is_told(index, tmp_path, text):
+    (tmp_path / "conf").write_text(text)
+    words = [*HEALTH, "--front", f"{tmp_path}/conf", f"http://127.0.0.1:{index.port}"]
+    assert_ends(run_command(words), 1, f"{tmp_path}/conf names no server")
 
 
 def test_the_unit_asks_nginx_and_so_do_its_templates(folder):

@@ -13,7 +13,8 @@ from support.ports import free_port
 from support.running import run_command
 from support.server.expected import assert_ends
 from support.server.stand_ins import called, stand_ins
-from support.server.watched import HEALTH, Failed, look_at_health, unit
+from support.server.waits import wait_for
+from support.server.watched import HEALTH, Closes, Failed, look_at_health, unit
 from support.serving import Running
 
 RESTARTED = "systemctl try-restart index.service\n"
@@ -98,21 +99,33 @@ class TestStart:
         assert_ends(run_command(words), 0)
 
     def test_a_start_that_hangs_is_waited_for_until_the_program_ends(self):
-        with Running(["sleep", "60"]) as hung:
-            words = [*HEALTH, "--start", str(hung.process.pid), f"http://127.0.0.1:{free_port()}"]
+        with Running(["sleep", "300"]) as hung, Closes() as closes:
+            words = [*HEALTH, "--start", str(hung.process.pid), f"http://127.0.0.1:{closes.port}"]
             with Running(words, stdout=subprocess.PIPE, stderr=subprocess.STDOUT) as waits:
-                with pytest.raises(subprocess.TimeoutExpired):
-                    waits.process.wait(1.5)
+                assert wait_for(lambda: len(closes.seen) > 2)
                 hung.process.kill()
                 hung.process.wait()
-                said = waits.process.communicate(timeout=20)[0]
+                said = waits.process.communicate(timeout=60)[0]
         assert (waits.process.returncode, b"ended before" in said) == (3, True), said
 
     def test_a_start_that_fails(self):
         with Failed() as failed:
-            assert_ends(run_command([*HEALTH, "--start", str(os.getpid()), failed.url], 20), 8, "500")
+            assert_ends(run_command([*HEALTH, "--start", str(os.getpid()), failed.url]), 8, "500")
 
     def test_the_unit_waits_and_not_for_ever(self):
         bound = re.search(r"^TimeoutStartSec=(\d+)min$", unit("index.service"), re.M)
         assert bound and int(bound[1]) >= 5
         assert re.search(r"^ExecStartPost=\S*/index-health --start \$MAINPID http", unit("index.service"), re.M)
+
+    def test_no_start_succeeds_by_an_answer_of_another_program_at_its_port(self, index):
+        script = re.search(r"^ExecStartPre=/bin/bash -c '(.*?)'$", unit("index.service"), re.M | re.S)[1]
+        for port, status, said in ((free_port(), 0, ""), (index.port, 1, f"another program has port {index.port}")):
+            ended = run_command(["bash", "-c", script.replace("\\\n", " ").replace("8080", str(port))])
+            assert_ends(ended, status, said)
+
+    def test_each_of_several_looks_at_its_own_port(self, folder):
+        made = shutil.copytree(f"{SERVER}/systemd", f"{folder}/units")
+        assert_ends(run_command([sys.executable, f"{SERVER}/debian/templates.py", made]), 0)
+        with open(f"{made}/index@.service") as kept:
+            text = kept.read()
+        assert "/dev/tcp/127.0.0.1/%i;" in text and "8080" not in re.sub("^#.*$", "", text, flags=re.M)

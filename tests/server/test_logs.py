@@ -43,6 +43,7 @@ def loses(logs, bit, looked):
     return left != CLAIMS
 
 
+@pytest.mark.slow
 def test_a_flipped_bit_is_told_exactly_if_the_program_would_drop_something_for_it(logs, chance, looked, pytestconfig):
     bits = logs.bits(pytestconfig.option.rounds or FLIPS, chance)
     looked(any([loses(logs, bit, looked) for bit in bits]), "no bit lost anything")
@@ -55,6 +56,7 @@ def test_a_flipped_bit_of_the_header_is_told_as_the_loss_of_all(logs, chance, lo
         looked(loses(logs, bit, looked), bit)
 
 
+@pytest.mark.slow
 def test_a_log_that_a_kill_left_in_the_midst_of_changes_is_not_damaged(logs, program, chance, looked, pytestconfig):
     """The next opening has all that was acknowledged."""
     for number in range(pytestconfig.option.rounds or KILLS):

@@ -4,6 +4,7 @@ import re
 import sqlite3
 from contextlib import closing
 
+import pytest
 from support.places import SERVER
 from support.serving import Index, accepted
 
@@ -36,6 +37,7 @@ def kilobytes(process, row):
         return next(int(it.split()[1]) for it in kept if it.startswith(f"{row}:"))
 
 
+@pytest.mark.slow
 def test_a_start_over_small_files_gives_its_memory_back(program, index_file):
     fill(index_file)
     with Index(program, path=index_file, patience=120, setting=of_unit()) as index:

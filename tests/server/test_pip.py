@@ -15,6 +15,7 @@ def options(filled_index, front, folder):
             "--cache-dir", f"{folder}/pip", "--index-url", f"{front.url}/simple/"]
 
 
+@pytest.mark.slow
 def test_pip_downloads_a_file_once_and_keeps_it(options, folder):
     download = [*PIP, "download", *options, "--no-deps", "frob==1.0", "-d"]
     assert_ends(run_command([*download, f"{folder}/first"]), 0, "Downloading", "frob-1.0-py3-none-any.whl")

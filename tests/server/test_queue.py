@@ -9,6 +9,7 @@ from contextlib import contextmanager
 
 import pytest
 from support.server.front import Front
+from support.server.waits import wait_for
 from support.serving import JSON_PAGE, accepted
 
 NUMBERS = itertools.count()
@@ -21,6 +22,8 @@ CONNECTIONS = "worker_connections 768", "worker_connections 4096"
 def front_with(folder, certificate, index, rate, burst):
     """nginx that has no more than this rate reach the index."""
     made = Front(f"{folder}/queue", certificate, index.port, is_plain=True)
+    made.put("conf.d/a.conf", "log_format turns '$limit_req_status';\n")
+    made.put("index/server.d/turns.conf", f"access_log {made.folder}/turns.log turns;\n")
     for name, changes in (("conf.d/packages.conf", ((RATE, rate), (BURST, burst))), ("nginx.conf", (CONNECTIONS,))):
         with open(f"{made.folder}/{name}", encoding="utf-8") as kept:
             text = kept.read()
@@ -50,6 +53,12 @@ async def ask_in_turn(port, requests):
 
 async def ask_at_once(port, requests):
     return await asyncio.gather(*(ask(port, *it) for it in requests))
+
+
+def turns(front):
+    """What nginx has logged of each request: whether it waited."""
+    with open(f"{front.folder}/turns.log", encoding="ascii") as lines:
+        return lines.read().split()
 
 
 COUNTED = {
@@ -86,5 +95,8 @@ def test_a_crowd_waits_for_its_turn_and_all_are_answered(kept_index, certificate
         begun = time.monotonic()
         found = Counter(asyncio.run(ask_at_once(front.port, [COUNTED["standings"]() for _ in range(CROWD)])))
         took = time.monotonic() - begun
+        assert wait_for(lambda: len(turns(front)) == CROWD), turns(front)
+        # a busy machine may take as long without a queue
+        assert "DELAYED" in turns(front)
     assert found == {200: CROWD}
     assert took > 0.95 * (CROWD - 1) / A_SECOND, f"{took:.2f} s"

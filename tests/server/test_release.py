@@ -1,6 +1,8 @@
 """What tools/release hands out, and what it refuses to make a release of. The steps are those of one repository."""
 from __future__ import annotations
 
+import os
+
 import pytest
 from support.needed import want_command
 from support.running import run_command
@@ -56,6 +58,11 @@ def test_a_release_made_again_from_its_tag_is_the_same(releases):
     assert releases.sums("first") and releases.sums("first") == releases.sums("again")
 
 
+def test_a_release_is_checked_by_the_lines_of_the_page(releases):
+    assert_ends(releases.checked, 0, "".join(f"{it}: OK\n" for it in NAMES), f" {TAG} {releases.commit}\n")
+    assert releases.sums("first") and releases.sums("first") == releases.sums("checked")
+
+
 @pytest.mark.parametrize("what, said", [
     ("a tag that is there", f"there is a tag {TAG}"), ("no section", "has no section for 9.8.8"),
     ("another constant", f"has the version {VERSION}, not 9.8.6"), ("changes", "not committed"),
@@ -67,6 +74,18 @@ def test_what_is_no_release_is_refused(releases, what, said):
 
 def test_nothing_is_made_of_what_is_refused(releases):
     assert not releases.refused["made"]
+
+
+def test_a_release_that_the_gate_proves_is_the_same(releases):
+    assert_ends(releases.of_the_gate, 0, f" {TAG} {releases.commit}\n")
+    assert releases.sums("first") and releases.sums("first") == releases.sums("gate")
+    assert os.path.exists(f"{releases.folder}/called")
+
+
+def test_a_proof_that_fails_makes_no_release(releases):
+    assert releases.of_the_gate
+    assert_ends(releases.refused["a proof that fails"], 1, "the program was not built: rt ci failed")
+    assert not os.path.exists(releases.none)
 
 
 def test_a_release_of_a_program_that_is_built_is_the_same(releases):

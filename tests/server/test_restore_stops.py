@@ -10,7 +10,7 @@ import time
 
 import pytest
 from support.server.expected import assert_ends
-from support.server.stops import FAILING, KEPT, each_step, make_both, serving
+from support.server.stops import FAILING, KEPT, SIGNALS, each_step, halved, make_both, serving
 from support.server.waits import wait_for
 
 
@@ -20,6 +20,7 @@ def made(program, folder):
 
 
 @pytest.mark.slow
+@pytest.mark.timeout(1800)
 @pytest.mark.parametrize("number", [signal.SIGINT, signal.SIGTERM, signal.SIGHUP])
 def test_a_signal_at_each_step_leaves_what_was_or_what_was_asked_for_and_says_which(made, program, folder, looked,
                                                                                    number):
@@ -40,9 +41,11 @@ def test_a_signal_at_each_step_leaves_what_was_or_what_was_asked_for_and_says_wh
         seen.append(names)
     # it can be ended until the index is stopped, and not any more
     looked(seen == sorted(seen, reverse=True) and ["kept"] in seen and ["later"] in seen, seen)
+    print(f"index-restore: {len(seen)} steps by {number.name}")
 
 
 @pytest.mark.slow
+@pytest.mark.timeout(1800)
 def test_killed_at_each_step_it_is_finished_or_begun_again_by_the_same_command(made, program, folder, looked):
     """And the way back that it names leads to what was there; a copy that is in its place is not put there twice."""
     seen = []
@@ -59,12 +62,22 @@ def test_killed_at_each_step_it_is_finished_or_begun_again_by_the_same_command(m
         looked("PyPI was taken off" in again.stdout and not os.path.exists(f"{folder}/{step}/cache/{KEPT}"), *said)
         seen.append(names)
     looked([it for at, it in enumerate(seen) if it not in seen[:at]] == [["later"], None, ["kept"]], seen)
+    print(f"index-restore: {len(seen)} steps by SIGKILL")
 
 
 @pytest.fixture
 def restores(made, program):
     with serving(program, made) as found:
         yield found
+
+
+@pytest.mark.parametrize("number", SIGNALS)
+def test_stopped_in_the_midst_of_its_copy_it_leaves_what_was_and_a_second_run_does_it(restores, number):
+    ended = restores.run(half=halved(restores.folder, 0, number))
+    assert ended.returncode == -number and restores.names() == ["later"] and restores.is_served(), ended.stdout
+    assert number == signal.SIGKILL or restores.left() == [] and "nothing was restored" in ended.stdout
+    assert_ends(restores.run(), 0, "is in its place")
+    assert restores.names() == ["kept"] and restores.is_served() and len(restores.left()) == 1
 
 
 def test_of_two_at_once_the_second_is_refused_and_the_first_ends_well(restores):
@@ -99,6 +112,7 @@ def test_a_copy_that_is_in_its_place_stays_so_when_nobody_reads_what_is_told(res
         assert "1. Changes since 2026-01-01" in kept.read()
 
 
+@pytest.mark.slow
 def test_what_a_killed_restore_of_another_copy_put_aside_is_named(restores):
     """The one that follows puts its own copy in place, and tells of both ways back."""
     last = 0

@@ -61,6 +61,7 @@ WRONG_COPIES = {
     "the_database_itself": (lambda by: by.index.path, "the database itself"),
     "no_path": (lambda by: "", "give the path"),
 }
+QUICK_COPIES = "a_copy_that_was_cut", "an_older_copy"
 
 
 def assert_as_before(by, asked=()):
@@ -74,7 +75,8 @@ def assert_as_before(by, asked=()):
 class TestRefused:
     """What can't be restored is refused before the index is stopped, and nothing is lost."""
 
-    @pytest.mark.parametrize("what", WRONG_COPIES)
+    @pytest.mark.parametrize("what", [it if it in QUICK_COPIES else pytest.param(it, marks=pytest.mark.slow)
+                                      for it in WRONG_COPIES])
     def test_a_wrong_copy(self, by, what):
         copy, said = WRONG_COPIES[what]
         assert_ends(by.run(copy(by), shell=LIMIT), 1, said)
@@ -103,6 +105,7 @@ class TestRefused:
         assert_as_before(by, ["stop other.service", "start other.service"])
 
 
+@pytest.mark.slow
 def test_killed_before_each_move_the_old_database_is_whole_or_the_copy_is_in_its_place(by, program, looked):
     """Neither is lost."""
     claims = [b'{"at":1,"token":"office","do":"claim","name":"killed"}\n']
@@ -245,9 +248,9 @@ class TestChangesSince:
         name = os.path.basename(by.copy)
         return datetime.datetime.strptime(f"{name} +0000", "index-%Y%m%dT%H%M%SZ.db %z")
 
-    def listed(self, by):
+    def listed(self, by, *more):
         """What is said, and the bodies of the changes that a restore lists."""
-        ended = by.run(by.copy)
+        ended = by.run(by.copy, *more)
         aside, = by.left()
         with open(f"{by.folder}/{aside}/changes") as changes:
             return ended, [json.loads(line)["body"] for line in changes]
@@ -263,6 +266,14 @@ class TestChangesSince:
         ended, bodies = self.listed(by)
         assert_ends(ended, 0, "nginx passed on 3 of them", "prohibit the project")
         assert bodies == ["a ban in the second of the copy", "after", "without a time"]
+
+    def test_each_nginx_has_a_log_of_its_own(self, by, begun):
+        for path, numbers in ((by.log, (1, 4)), (f"{by.work}/other.log", (2, 3, 5))):
+            with open(path, "w") as log:
+                log.writelines(logged(begun + datetime.timedelta(seconds=it), f"change {it}") for it in numbers)
+        ended, bodies = self.listed(by, "--changes", f"{by.work}/other.log")
+        assert_ends(ended, 0, "nginx passed on 5 of them")
+        assert bodies == [f"change {it}" for it in range(1, 6)]
 
     def test_rotated_logs_are_read_too_and_the_oldest_first(self, by, begun):
         """By when each was written: their names tell how often they were rotated."""

@@ -1,11 +1,13 @@
 """Three indexes behind one address, as server/nginx/shards.conf has it."""
 import json
+import re
 from contextlib import ExitStack
 
 import pytest
+from support.ports import free_port
 from support.server.compressed import differences
 from support.server.expected import assert_reply
-from support.server.front import Front
+from support.server.front import Front, kept, replaced
 from support.serving import JSON_PAGE, Index, accepted
 
 # a name of each index as its owner writes it, the letters at the bounds, and figures
@@ -69,3 +71,31 @@ def test_the_health_of_each_is_asked_by_its_number(at, indexes, shards):
     indexes[at].process.wait()
     status = [shards.ask("GET", f"/health?index={number}")[0] for number in range(3)]
     assert status == [503 if number == at else 200 for number in range(3)]
+
+
+class ShardOfTwo(Front):
+    """nginx as shards.conf has it, where the second index has the upstream of two-machines.conf: two ports."""
+
+    def __init__(self, folder, certificate, others, first, second):
+        super().__init__(folder, certificate, others, others, others)
+        upstream = re.search(r"upstream index_0 \{\n.*?\n\}", kept("two-machines.conf"), re.DOTALL)[0]
+        upstream = replaced(upstream, index_0="index_1", **{"192.0.2.11:8080": f"127.0.0.1:{first}",
+                                                            "192.0.2.12:8080": f"127.0.0.1:{second}"})
+        with open(f"{self.folder}/index/indexes.conf") as conf:
+            line = re.search(r"upstream index_1 \{.*\}", conf.read())[0]
+        ports = {f"127.0.0.1:{port}": f"127.0.0.1:{others}" for port in (8080, 8082)}
+        self.put("index/indexes.conf", kept("shards.conf"), **{line.replace(str(others), "8081"): upstream}, **ports)
+
+
+@pytest.mark.parametrize("serves", ["first", "second"])
+def test_an_index_of_several_may_be_on_two_machines(serves, indexes, certificate, folder, looked):
+    """Each request reaches the machine that serves, and those for names of other indexes reach those."""
+    others, pair, _ = indexes
+    ports = (pair.port, free_port()) if serves == "first" else (free_port(), pair.port)
+    with ShardOfTwo(f"{folder}/two", certificate, others.port, *ports) as front:
+        for at in range(8):
+            for index, name in ((pair, f"ham{at}"), (others, f"frob{at}"), (others, f"x-ray{at}")):
+                looked(claim(front, name)[0] == 200, name)
+                looked(front.upload(name, f"{name}-1.0.tar.gz", b"bytes")[0] == 201, name)
+                looked(front.ask("GET", f"/simple/{name}/")[0] == 200, name)
+                looked(b'"held"' in index.ask("GET", f"/names/{name}")[2], name)

@@ -58,6 +58,7 @@ def test_the_new_file_has_the_same_rows_and_room_for_sums_and_the_old_one_is_unt
     assert (ended.returncode, ended.stdout) == (0, "0\n")
 
 
+@pytest.mark.slow
 def test_each_flipped_bit_of_the_new_file_is_refused_as_damage(
         old, reseal, folder, check, chance, looked, pytestconfig):
     reseal(old)

@@ -2,15 +2,14 @@
 from __future__ import annotations
 
 import socket
-import threading
 from collections.abc import Iterator
-from contextlib import closing
 
 import pytest
 from support.ports import free_port
 from support.server.front import Front, kept
 from support.server.kept import Kept
 from support.server.waits import wait_for
+from support.server.watched import Closes
 
 EACH = 24
 
@@ -22,24 +21,6 @@ class Takeovers(Front):
         super().__init__(folder, certificate, first)
         self.put("index/indexes.conf", kept("two-machines.conf"),
                  **{"192.0.2.11:8080": f"127.0.0.1:{first}", "192.0.2.12:8080": f"127.0.0.1:{second}"})
-
-
-class Closes(threading.Thread):
-    """A machine that goes as soon as it has a request. `seen` are the first words of those."""
-
-    def __init__(self) -> None:
-        super().__init__(daemon=True)
-        self.listener, self.seen = socket.create_server(("127.0.0.1", 0)), []
-        self.port = self.listener.getsockname()[1]
-
-    def run(self) -> None:
-        while True:
-            try:
-                peer, _ = self.listener.accept()
-            except OSError:
-                return
-            with peer:
-                self.seen.append(peer.recv(1 << 16).split(b" ")[0])
 
 
 @pytest.fixture
@@ -74,10 +55,10 @@ def test_when_the_other_machine_serves_each_request_reaches_that(program, folder
         asked(front, "x", looked, 2)
         index.stop()
         with other:
-            wait_for(lambda: front.ask("GET", "/health")[0] == 200)
+            assert wait_for(lambda: front.ask("GET", "/health")[0] == 200)
             asked(front, "y", looked)
         index.is_wanted.set()
-        wait_for(lambda: front.ask("GET", "/health")[0] == 200)
+        assert wait_for(lambda: front.ask("GET", "/health")[0] == 200)
         asked(front, "z", looked)
 
 
@@ -94,10 +75,9 @@ def test_a_machine_that_is_silent_is_passed_by(index, certificate, folder, looke
 
 
 def test_what_a_machine_took_before_it_went_is_sent_again_but_no_post(index, certificate, folder):
-    machine = Closes()
-    with closing(machine.listener), Takeovers(f"{folder}/front", certificate, machine.port, index.port) as front:
-        machine.start()
+    with Closes() as machine, Takeovers(f"{folder}/front", certificate, machine.port, index.port) as front:
         reply = front.claim("egg")
         assert reply[0] == 503 and machine.seen == [b"POST"], reply
         assert index.ask("GET", "/names/egg")[2].count(b'"free"') == 1
-        wait_for(lambda: front.upload("frob", "frob-1.0.tar.gz", b"bytes")[0] in (200, 201) and b"PUT" in machine.seen)
+        assert wait_for(lambda: front.upload("frob", "frob-1.0.tar.gz", b"bytes")[0] in (200, 201)
+                        and b"PUT" in machine.seen)

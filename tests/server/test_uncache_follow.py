@@ -1,7 +1,6 @@
 """index-uncache-follow: what a delete, a ban or a prohibition removes goes out of nginx's cache by itself."""
 import json
 import os
-import signal
 import sys
 from contextlib import contextmanager
 
@@ -11,6 +10,8 @@ from support.places import BIN, SERVER
 from support.programs import program_of
 from support.running import run_command
 from support.server.expected import assert_ends, assert_reply
+from support.server.manager import reopen
+from support.server.pasted import block
 from support.server.waits import wait_for
 from support.server.watched import unit
 from support.serving import Running, accepted, sha256
@@ -52,7 +53,7 @@ def is_gone(front, file):
 
 
 def wait_until_gone(front, *files):
-    assert wait_for(lambda: all(is_gone(front, file) for file in files), seconds=30)
+    assert wait_for(lambda: all(is_gone(front, file) for file in files))
 
 
 def test_a_ban_a_delete_and_a_prohibition_take_files_out(cached):
@@ -77,13 +78,12 @@ def test_what_came_while_it_was_killed_is_taken_out_too_also_over_a_rotation(cac
         ban(cached, FILES[0])
         wait_until_gone(cached, FILES[0])
         end = os.stat(log).st_ino, os.path.getsize(log)
-        assert wait_for(lambda: followed.place_in(f"{cached.folder}/place") == end, seconds=30)
+        assert wait_for(lambda: followed.place_in(f"{cached.folder}/place") == end)
         runs.process.kill()
         runs.process.wait()
     ban(cached, FILES[1])
     os.rename(log, f"{log}.1")
-    os.kill(cached.process.pid, signal.SIGUSR1)
-    assert wait_for(lambda: os.path.exists(log), seconds=30)
+    reopen(cached.process.pid, f"{log}.1")
     ban(cached, FILES[2])
     assert not is_gone(cached, FILES[1]) and not is_gone(cached, FILES[2])
     with following(cached):
@@ -93,16 +93,15 @@ def test_what_came_while_it_was_killed_is_taken_out_too_also_over_a_rotation(cac
 def test_a_rotation_is_followed_and_a_line_that_nginx_still_writes_into_the_old_log_is_read(cached):
     log = f"{cached.folder}/index-changes.log"
     with following(cached):
-        assert wait_for(lambda: os.path.exists(f"{cached.folder}/place"), seconds=30)
+        assert wait_for(lambda: os.path.exists(f"{cached.folder}/place"))
         os.rename(log, f"{log}.1")
         with open(log, "w"):
             # logrotate makes the new one, and nginx writes into the old one until it is told
             pass
         ban(cached, FILES[0])
         wait_until_gone(cached, FILES[0])
-        os.kill(cached.process.pid, signal.SIGUSR1)
-        # (each process of nginx opens it when it comes to it)
-        assert wait_for(lambda: cached.request(do="ban_file", file=FILES[1]) and os.path.getsize(log), seconds=30)
+        reopen(cached.process.pid, f"{log}.1")
+        ban(cached, FILES[1])
         wait_until_gone(cached, FILES[1])
 
 
@@ -210,3 +209,7 @@ def test_the_unit_keeps_its_place_and_tells():
         assert 'default="/var/lib/index-uncache/place"' in kept.read()
     with open(f"{SERVER}/debian/package-index.prerm") as kept:
         assert " index-uncache-follow.service " in kept.read()
+
+
+def test_an_installation_turns_it_on():
+    assert "index-uncache-follow.service" in block("systemctl enable --now index.service").split()

@@ -131,6 +131,15 @@ def test_the_oldest_copies_go_and_parts_of_a_run_that_was_killed(tmp_path, monke
     assert sorted(os.listdir(tmp_path / "copies")) == [*left, "index-20260102T030405Z.db"]
 
 
+def test_a_copy_is_on_the_disk_before_an_old_one_goes(tmp_path, monkeypatch):
+    os.mkdir(tmp_path / "copies")
+    (tmp_path / "copies" / "index-20250101T000000Z.db").touch()
+    there = []
+    monkeypatch.setattr(BACKUP, "sync", lambda folder: there.append(sorted(os.listdir(folder))))
+    backed(tmp_path, monkeypatch, 1)
+    assert there == [["index-20250101T000000Z.db", "index-20260102T030405Z.db"]]
+
+
 @pytest.mark.parametrize("keep", [1, 2])
 def test_no_copy_is_removed_while_one_of_a_later_time_is_there(tmp_path, monkeypatch, keep):
     os.mkdir(tmp_path / "copies")

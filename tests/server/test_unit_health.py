@@ -204,7 +204,7 @@ def test_what_nginx_does_not_keep_is_told_with_what_it_keeps(tmp_path, monkeypat
 
 
 def test_what_nginx_removed_meanwhile_is_told_as_removed(tmp_path, capsys):
-    UNCACHE.removed("frob", "x.whl", str(tmp_path / "none"))
+    UNCACHE.take_out("frob", [UNCACHE.Kept("x.whl", str(tmp_path / "none"))])
     assert capsys.readouterr().out == "removed /files/frob/x.whl\n"
 
 

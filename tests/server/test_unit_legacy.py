@@ -75,6 +75,8 @@ def test_a_form_of_no_fields_has_none():
     (field("name", b"frob") + END + b"x", "malformed or breaks off"),
     (f"--{BOUNDARY}\r\nX: y\r\n\r\nz\r\n".encode() + END, "a field has no name"),
     (f"--{BOUNDARY}\r\nContent-Disposition: file; name=\"x\"\r\n\r\nz\r\n".encode() + END, "a field has no name"),
+    # the boundary stands where the value would
+    (field("name", b"").removesuffix(b"\r\n") + END, "malformed or breaks off"),
     (field("docs", b"x", "a.html") + END, "a file in the field 'docs'"),
     (field("name", b"a") + field("name", b"b") + END, "'name' stands twice")])
 def test_a_form_that_is_malformed_is_refused(data, said):
@@ -263,15 +265,19 @@ def test_no_pause_goes_over_the_time_for_an_answer(monkeypatch):
 
 def test_a_connection_is_shut_once_its_time_is_over_and_not_before():
     shut = threading.Event()
-    peer = types.SimpleNamespace(shutdown=lambda way: (shut.set(), shut.__setattr__("way", way)))
+    peer = types.SimpleNamespace(shutdown=lambda way: (shut.__setattr__("way", way), shut.set()))
     with LEGACY.within(60, peer):
         pass
-    with LEGACY.within(0.01, peer, socket.SHUT_RD):
-        assert shut.wait(60)
-    assert shut.way == socket.SHUT_RD
+    for way, words in ((socket.SHUT_RD, (socket.SHUT_RD,)), (socket.SHUT_RDWR, ())):
+        shut.clear()
+        with LEGACY.within(0.01, peer, *words):
+            assert shut.wait(60)
+        assert shut.way == way
+    # also one of an earlier test, which was cancelled a moment ago
+    before = {*threading.enumerate()}
     with LEGACY.within(60, peer):
         # one that still waits must not keep the service from its end
-        assert all(it.daemon for it in threading.enumerate() if isinstance(it, threading.Timer))
+        assert [it.daemon for it in {*threading.enumerate()} - before if isinstance(it, threading.Timer)] == [True]
     # what is shut already is no fault
     with LEGACY.within(0, types.SimpleNamespace(shutdown=raises(OSError()))):
         pass

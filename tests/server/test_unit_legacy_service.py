@@ -79,6 +79,11 @@ def test_what_is_no_upload_is_told(monkeypatch, data, status):
     assert not given and ("\r\nAllow: POST" in head) == status.startswith("405")
 
 
+def test_a_form_has_as_long_as_the_use_says_and_each_piece_of_it_ten_seconds():
+    assert f"A form has to arrive within {LEGACY.FORM_SECONDS} seconds." in " ".join(LEGACY.__doc__.split())
+    assert LEGACY.Handler.timeout == 10
+
+
 def test_a_form_that_breaks_off_is_told_by_408(monkeypatch):
     monkeypatch.setattr(LEGACY, "FORM_SECONDS", 0.05)
     with service(monkeypatch) as (serving, given):
@@ -113,13 +118,14 @@ def test_not_more_forms_are_read_at_once_than_may_be(monkeypatch):
 
 
 def test_the_service_ends_though_a_client_is_silent(monkeypatch):
+    monkeypatch.setattr(LEGACY.Handler, "timeout", 600)
     begun = time.monotonic()
     with service(monkeypatch, at_once=1) as (serving, _):
         silent = socket.create_connection(serving.server_address)
         while serving.free._value:
             time.sleep(0.001)
     with silent:
-        assert time.monotonic() - begun < LEGACY.SILENT_SECONDS / 2
+        assert time.monotonic() - begun < 60
 
 
 def test_a_thread_that_can_not_be_started_frees_its_place(monkeypatch):

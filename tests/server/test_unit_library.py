@@ -32,10 +32,11 @@ def test_bytes_are_written_where_there_is_just_the_room(tmp_path, monkeypatch):
     monkeypatch.setattr(disk.os, "statvfs", lambda folder: free if folder == str(tmp_path) else None)
     disk.want_room(str(tmp_path), 1024)
     free.f_bavail -= 1
-    with pytest.raises(ends.Refused) as refused:
-        disk.want_room(str(tmp_path), 1024, "make some")
-    said = f"{tmp_path} has room for {64 * MIB + 512} bytes, and this needs {64 * MIB + 1024}: make some"
-    assert str(refused.value) == said
+    for advice, words in (("make room first", ()), ("make some", ("make some",))):
+        with pytest.raises(ends.Refused) as refused:
+            disk.want_room(str(tmp_path), 1024, *words)
+        said = f"{tmp_path} has room for {64 * MIB + 512} bytes, and this needs {64 * MIB + 1024}: {advice}"
+        assert str(refused.value) == said
 
 
 def recorded(monkeypatch, name):
@@ -117,6 +118,8 @@ def test_a_database_that_another_program_reads_or_writes_is_not_locked(tmp_path,
         with pytest.raises(ends.Refused) as refused:
             database.lock(file, "end it")
         assert str(refused.value) == f"{path}: another program still has it open; end it"
+        with pytest.raises(ends.Refused, match="has it open; stop that first$"):
+            database.lock(file)
         may_end.set()
         other.join()
         database.lock(file)
@@ -169,8 +172,18 @@ def program(text, before=""):
     """A program that ends by `status_of`, under the name `it`."""
     script = f"import sys; sys.path.insert(0, {SERVER + '/lib'!r})\nfrom package_index.ends import *\n{text}\n"
     words = [sys.executable, "-B", "-c", f"{script}{before}\nsys.exit(status_of('it', main))"]
-    return subprocess.Popen(words, stdout=subprocess.PIPE, stderr=subprocess.PIPE, text=True,
+    # with this variable all that is printed is written at once
+    env = {name: value for name, value in os.environ.items() if name != "PYTHONUNBUFFERED"}
+    return subprocess.Popen(words, stdout=subprocess.PIPE, stderr=subprocess.PIPE, text=True, env=env,
                             restore_signals=True, start_new_session=True)
+
+
+def test_a_program_goes_on_if_nobody_reads_what_it_tells():
+    main = ("import os\ndef main():\n    read, write = os.pipe()\n    os.close(read)\n    os.dup2(write, 1)\n"
+            "    tell('moved')\n    tell('and done')\n    return 7\n")
+    running = program(main)
+    out, err = running.communicate(timeout=60)
+    assert (running.returncode, out, err) == (7, "", "")
 
 
 @pytest.mark.parametrize("number", [signal.SIGHUP, signal.SIGINT, signal.SIGTERM])

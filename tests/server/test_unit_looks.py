@@ -16,7 +16,9 @@ def look(hours_ago=0.0, room=None, boot="a", restarts=None, is_set=0.0):
 
 @pytest.mark.parametrize("hours, before, free, told", [
     (24, 8, 7, []), (24, 8, 6.9, [6.3]),
-    (24, 8, 8, []), (24, 8, 9, []), (24.1, 8, 4, []), (6, 8, 7.5, [3.75]), (5.9, 8, 4, []), (24, 8, 0, [0.0])])
+    (24, 8, 8, []), (24, 8, 9, []), (24.1, 8, 4, []), (6, 8, 7.5, [3.75]), (5.9, 8, 4, []), (24, 8, 0, [0.0]),
+    # in 8.5 times 20 hours
+    (20, 9.5, 8.5, [])])
 def test_a_disk_is_told_that_is_full_within_seven_days_at_the_rate_of_the_last(hours, before, free, told):
     seen = list(looks.disks([look(hours, {"/a": int(before * GIB)}), look(0, {"/a": int(free * GIB), "/b": 1})]))
     assert len(seen) == len(told)
@@ -87,11 +89,20 @@ def test_an_index_that_is_new_has_a_day_for_its_first_backup(tmp_path):
     assert late(tmp_path / "none", 30) == [f"no backup was made in {tmp_path}/none for 30 hours"]
 
 
-def test_of_several_indexes_each_has_its_own_backups(tmp_path):
-    for port, hours in (("8080", 2), ("8081", 30)):
+def test_of_several_indexes_each_has_its_own_backups(tmp_path, monkeypatch):
+    for port, hours in (("8080", 2), ("8082", 27), ("8091", 30), ("8083", 28)):
         (tmp_path / port).mkdir()
         copy(tmp_path / port, hours)
-    assert late(tmp_path) == [f"no backup was made in {tmp_path}/8081 for 30 hours"]
+    # a system may list them in any order
+    listed = os.listdir
+    monkeypatch.setattr(looks.os, "listdir", lambda it: sorted(listed(it), key=lambda name: name[::-1]))
+    assert late(tmp_path) == [f"no backup was made in {tmp_path}/{port} for {hours} hours"
+                              for port, hours in ((8082, 27), (8083, 28), (8091, 30))]
+
+
+def test_the_log_of_a_copy_that_is_under_way_is_no_backup(tmp_path):
+    os.rename(copy(tmp_path, 1), f"{copy(tmp_path, 30)}-wal")
+    assert late(tmp_path) == [f"no backup was made in {tmp_path} for 30 hours"]
 
 
 def log(folder, *rows):

@@ -39,8 +39,7 @@ def test_the_sizes_of_files_and_the_age_of_the_newest_copy(tmp_path):
     db, backups = tmp_path / "a[b]" / "index.db", tmp_path / "backups"
     for folder in (db.parent, backups, db.parent / "damaged-1", db.parent / "damaged-2"):
         folder.mkdir()
-    assert told(METRICS.files(str(db), str(tmp_path / "none"))) == {
-        "index_database_bytes": 0, "index_log_bytes": 0, "index_damaged_logs": 2}
+    assert told(METRICS.files(str(db), str(tmp_path / "none"))) == {"index_damaged_logs": 2}
     for path, length, at in ((db, 7, 1), (f"{db}-wal", 9, 1), (backups / "index-1.db", 10, 2000),
                              (backups / "index-2.db", 20, 1000), (backups / "index-3.part", 40, 3000),
                              (backups / "x.part", 100, 3000)):

@@ -109,7 +109,7 @@ def test_a_hint_has_what_is_known_and_leaves_out_what_is_not():
 
 
 def test_the_fields_of_a_hint_are_those_in_braces():
-    assert hints.fields_of(hints.HINTS["OverQuota"]) == {"charge", "quota"}
+    assert hints.fields_of(hints.HINTS["OverQuota"]) == {"charge", "name", "quota"}
     assert hints.fields_of("none") == set()
 
 

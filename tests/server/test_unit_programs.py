@@ -3,6 +3,7 @@ import os
 import runpy
 import subprocess
 import sys
+import threading
 
 import pytest
 from support.places import BIN
@@ -19,6 +20,17 @@ def test_a_program_runs_by_a_link_and_tells_its_use(tmp_path, name):
     assert ended.returncode == 0 and first in ended.stdout, ended.stdout
 
 
+@pytest.mark.parametrize("name, told", [
+    ("index-alarms", ["/var/lib/index-alarms/state.json", "/var/backups/index", "/var/backups/index",
+                      "/var/log/nginx/index-changes.log"]),
+    ("index-uncache-follow", ["/var/log/nginx/index-changes.log", "/var/cache/nginx/index-files",
+                              "/var/lib/index-uncache/place"])])
+def test_the_use_ends_its_lines_by_what_is_taken_if_nothing_is_given(name, told):
+    ended = subprocess.run([sys.executable, "-B", f"{BIN}/{name}", "--help"], stdout=subprocess.PIPE, text=True,
+                           env={**os.environ, "COLUMNS": "200"}, timeout=60)
+    assert [it.split()[-1] for it in ended.stdout.splitlines() if " /" in it] == told, ended.stdout
+
+
 @pytest.mark.parametrize("name", ["index-backup", "index-reseal", "index-restore", "index-verify"])
 def test_a_program_finds_the_others_beside_its_own_file(tmp_path, name):
     os.symlink(f"{BIN}/{name}", tmp_path / name)
@@ -30,3 +42,55 @@ def test_a_program_is_short_and_can_be_read_from_the_top(name):
     with open(f"{BIN}/{name}") as kept:
         lines = kept.read().splitlines()
     assert len(lines) < 400 and lines[-2] == 'if __name__ == "__main__":' and lines[-1].startswith("    sys.exit(")
+
+
+# a program, its words with a file and a folder in them, and the status and what the last line says
+MISTAKES = [
+    ("index-alarm", ["--none"], 2, "sent."),
+    ("index-backup", ["{folder}/none", "{folder}"], 1, "No such file or directory"),
+    ("index-backup", ["{file}", "{file}"], 1, "Not a directory"),
+    ("index-health", ["none"], 2, "none is not an address such as http://127.0.0.1:8080"),
+    ("index-health", ["http://127.0.0.1:99999"], 2, "is not an address"),
+    ("index-log", ["{folder}"], 1, "{folder}: a folder, and not a database"),
+    ("index-log", ["{file}", "--"], 2, "nothing is lost."),
+    ("index-log", ["{file}", "--", "{folder}/none"], 1, "index-log: {folder}/none: No such file or directory"),
+    ("index-metrics", ["{file}", "{folder}", "--url", "none"], 2, "none is not an address"),
+    ("index-metrics", ["{file}", "{folder}", "--url", "http://127.0.0.1:1", "--out", "{folder}"], 1, "Is a directory"),
+    ("index-reseal", ["{file}", "{folder}/none/new"], 1, "No such file or directory"),
+    ("index-restore", ["{file}", "--url", "none"], 2, "none is not an address"),
+    ("index-restore", ["{file}", "--db", "{folder}/none/index.db"], 1, "no such folder"),
+    ("index-legacy-upload", ["--listen", "none"], 2, "none is not HOST:PORT"),
+    ("index-uncache", ["frob", "--cache", "{file}"], 2, "is not there; name nginx's folder by --cache"),
+    ("index-uncache-follow", ["--log", "{folder}", "--cache", "{folder}", "--place", "{folder}/place"], 1,
+     "Is a directory"),
+    ("index-verify", ["{folder}"], 1, "no such file"),
+]
+
+
+@pytest.mark.parametrize("name, words, status, said", MISTAKES)
+def test_a_mistake_is_answered_in_a_sentence(tmp_path, name, words, status, said):
+    (tmp_path / "folder").mkdir()
+    (tmp_path / "file").write_text("none\n")
+    places = {"file": f"{tmp_path}/file", "folder": f"{tmp_path}/folder"}
+    ended = subprocess.run([f"{BIN}/{name}", *(it.format(**places) for it in words)], stdout=subprocess.PIPE, text=True,
+                           stderr=subprocess.STDOUT, stdin=subprocess.DEVNULL, timeout=60)
+    assert ended.returncode == status and "Traceback" not in ended.stdout, ended.stdout
+    assert said.format(**places) in ended.stdout.splitlines()[-1], ended.stdout
+
+
+def test_what_is_not_there_yet_is_told_and_waited_for(tmp_path):
+    words = [f"--{it}={tmp_path}/{it}" for it in ("log", "cache", "place")]
+    with subprocess.Popen([f"{BIN}/index-uncache-follow", *words], stderr=subprocess.PIPE, text=True) as following:
+        # it says nothing more and goes on: without a line it is ended
+        ending = threading.Timer(60, following.kill)
+        ending.start()
+        told = [following.stderr.readline() for _ in "ab"]
+        ending.cancel()
+        following.terminate()
+    assert told == [f"index-uncache-follow: {tmp_path}/{it} is not there yet\n" for it in ("log", "cache")]
+
+
+def test_what_drbd_calls_says_so_to_a_person():
+    path = f"{os.path.dirname(BIN)}/two-machines/index-fence"
+    ended = subprocess.run([path], stderr=subprocess.PIPE, text=True, timeout=60)
+    assert (ended.returncode, ended.stderr) == (1, "index-fence: DRBD calls this, and names a resource and a peer\n")

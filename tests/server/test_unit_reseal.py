@@ -166,3 +166,11 @@ def test_a_new_file_is_its_owners_alone(tmp_path, monkeypatch, capsys):
     before = os.umask(0o022)
     ends(RESEAL, monkeypatch, capsys, "x", tmp_path / "new.db")
     assert os.umask(before) == 0o077
+
+
+def test_a_pipe_in_the_place_of_its_folder_is_refused_at_once(tmp_path, monkeypatch, capsys):
+    """Opened without O_DIRECTORY it would wait for a writer."""
+    os.mkfifo(tmp_path / "new.db.part")
+    made = calls(monkeypatch, RESEAL, "make")
+    status, _, err = ends(RESEAL, monkeypatch, capsys, "x", tmp_path / "new.db")
+    assert (status, err) == (1, f"index-reseal: [Errno 20] Not a directory: '{tmp_path}/new.db.part'\n") and not made

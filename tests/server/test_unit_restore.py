@@ -72,6 +72,12 @@ def test_only_copies_of_index_backup_are_newer(copies):
     RESTORE.look_at_copy(str(copies / "index.db"), "/none", False)
 
 
+def test_a_copy_that_was_renamed_is_taken_where_it_stands_alone(tmp_path):
+    copy = tmp_path / "index-20260102T000000Z.kept.db"
+    copy.write_bytes(DATABASE)
+    RESTORE.look_at_copy(str(copy), "/none", False)
+
+
 def test_what_is_no_copy_is_refused(copies):
     (copies / "text.db").write_bytes(b"SQLite format 3\n and more")
     copy = copies / "index-20260102T000000Z.db"
@@ -83,6 +89,21 @@ def test_what_is_no_copy_is_refused(copies):
     os.remove(copies / "index.db")
     (copies / "index.db").write_bytes(DATABASE)
     RESTORE.look_at_copy(str(copy), str(copies / "index.db"), False)
+
+
+def test_a_copy_of_another_index_is_refused(copies):
+    """Of several, whose databases and copies stand in folders that are named by their ports."""
+    os.mkdir(copies / "8081")
+    copy = copies / "8081" / "index-20260102T000000Z.db"
+    copy.write_bytes(DATABASE)
+    for db, of_other in ((f"{copies}/8081/index.db", False), (f"{copies}/8082/index.db", True),
+                         (f"{copies}/index.db", True)):
+        if of_other:
+            assert refusal(copy, db) == f"{copy}: this is a copy of the index at port 8081, and {db} is of another one"
+        else:
+            RESTORE.look_at_copy(str(copy), db, False)
+    # a copy that stands elsewhere may be of any
+    RESTORE.look_at_copy(str(copies / "index-20260102T000000Z.db"), f"{copies}/8082/index.db", False)
 
 
 @pytest.mark.parametrize("end", ["", "-wal"])
@@ -317,7 +338,8 @@ def test_the_moment_of_a_copy_is_that_of_its_name_or_of_its_last_write(tmp_path)
     ('{"time":"2026-01-02T03:04:04+00:00"}', False), ('{"body":"no time"}', True), ("no JSON", True), ("[1]", True),
     ('{"at":"2026-01-01T00:00:00"}', True)])
 def test_a_change_counts_from_the_second_of_the_copy_on_and_without_a_time_too(line, is_since):
-    assert changes.is_since(line, datetime.datetime(2026, 1, 2, 3, 4, 5, tzinfo=UTC)) is is_since
+    since = datetime.datetime(2026, 1, 2, 3, 4, 5, tzinfo=UTC)
+    assert (changes.moment_of(line, since) is not None) is is_since
 
 
 def test_changes_come_oldest_first_from_rotated_logs(tmp_path):
@@ -331,14 +353,27 @@ def test_changes_come_oldest_first_from_rotated_logs(tmp_path):
     (tmp_path / "changes.log.folder").mkdir()
     (tmp_path / "other.log").write_text("{}\n")
     since = datetime.datetime.fromtimestamp(0, UTC)
-    said = changes.changes_since(str(log), since, str(tmp_path / "made"))
+    said = changes.changes_since([str(log)], since, str(tmp_path / "made"))
     made = [json.loads(it)["body"] for it in (tmp_path / "made").read_text().splitlines()]
     assert made == ["first", "\ufffd", "second", "third"]
     assert said == f"nginx passed on 4 of them. They are in {tmp_path}/made, oldest first."
     later = datetime.datetime(2026, 1, 1, 0, 0, 1, tzinfo=UTC)
-    assert "passed on 3 of" in changes.changes_since(str(log), later, str(tmp_path / "made"))
+    assert "passed on 3 of" in changes.changes_since([str(log)], later, str(tmp_path / "made"))
+
+
+def test_changes_of_several_fronts_come_oldest_first(tmp_path):
+    at = '{{"body":"{}","at":"2026-01-01T00:00:0{}+0{}:00"}}\n'.format
+    fifth = '{"body":"fifth"}'
+    (tmp_path / "one.log").write_text(at("first", 1, 0) + '{"body":"second"}\n' + at("fourth", 5, 0) + fifth)
+    (tmp_path / "two.log").write_text(at("third", 2, 0) + at("sixth", 6, 0) + at("before", 9, 1))
+    since = datetime.datetime(2026, 1, 1, tzinfo=UTC)
+    logs = [f"{tmp_path}/{name}.log" for name in ("two", "none", "one")]
+    said = changes.changes_since(logs, since, str(tmp_path / "made"))
+    made = [json.loads(it)["body"] for it in (tmp_path / "made").read_text().splitlines()]
+    assert made == ["first", "second", "third", "fourth", "fifth", "sixth"]
+    assert said.startswith("nginx passed on 6 of them") and f"\n   There is no {tmp_path}/none.log. Look" in said
 
 
 def test_no_log_of_changes_is_told(tmp_path):
-    said = changes.changes_since(str(tmp_path / "none[1].log"), datetime.datetime.now(UTC), str(tmp_path / "made"))
+    said = changes.changes_since([str(tmp_path / "none[1].log")], datetime.datetime.now(UTC), str(tmp_path / "made"))
     assert said.startswith(f"There is no {tmp_path}/none[1].log. Look for POST") and not (tmp_path / "made").exists()

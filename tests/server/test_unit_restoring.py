@@ -30,7 +30,7 @@ class World:
         (tmp_path / "pypi.conf").touch()
         self.words = types.SimpleNamespace(**{
             "copy": self.copy, "older": False, "complete": False, "url": "http://x:1", "cache": ["/c/"],
-            "changes": str(tmp_path / "changes.log"), "with_pypi": str(tmp_path / "pypi.conf"), **changed})
+            "changes": [str(tmp_path / "changes.log")], "with_pypi": str(tmp_path / "pypi.conf"), **changed})
         self.units = RESTORE.Units(["a.service"])
         for module in (RESTORE, library_units):
             monkeypatch.setattr(module, "run", lambda *it: self.order.append(" ".join(it)))
@@ -100,6 +100,22 @@ def test_a_copy_that_is_complete_leaves_pypi_on(tmp_path, monkeypatch, capsys):
     assert capsys.readouterr().out.endswith("the index answers: http://x:1 19\n")
 
 
+@pytest.mark.parametrize("looks", [1, 2])
+def test_that_a_copy_is_complete_is_looked_at_before_and_after_the_units_stop(tmp_path, monkeypatch, looks):
+    world, seen = World(tmp_path, monkeypatch, complete=True), []
+
+    def want_complete(*_):
+        seen.append(world.units.are_stopped)
+        if len(seen) == looks:
+            raise Refused("written after")
+
+    monkeypatch.setattr(RESTORE, "want_complete", want_complete)
+    with pytest.raises(Refused, match="written after"):
+        world.restored()
+    # the second look comes once nobody writes any more
+    assert world.is_as_before() and seen == [False, True][:looks]
+
+
 def test_the_usual_caches_are_emptied_if_none_is_named(tmp_path, monkeypatch):
     world = World(tmp_path, monkeypatch, cache=None)
     world.restored()
@@ -146,7 +162,7 @@ def test_changes_that_can_not_be_gathered_are_told(tmp_path, monkeypatch, capsys
     world = World(tmp_path, monkeypatch)
     monkeypatch.setattr(RESTORE, "changes_since", raises(OSError("a bad block")))
     world.restored()
-    assert f"They could not be gathered from {world.words.changes}: a bad block" in capsys.readouterr().out
+    assert f"They could not be gathered from {world.words.changes[0]}: a bad block" in capsys.readouterr().out
 
 
 def test_room_is_wanted_for_the_copy_and_its_log_twice(tmp_path, monkeypatch):
@@ -202,3 +218,57 @@ def test_the_words_of_a_restore(tmp_path, monkeypatch, capsys):
     words, db, _ = asked[1]
     assert (db, words.older, words.complete, words.cache) == ("/var/lib/index/index.db", True, True, ["a", "b"])
     os.umask(before)
+
+
+def test_the_way_back_is_to_the_newest_that_was_put_aside(tmp_path, monkeypatch):
+    names = [f"{tmp_path}/before-2026010{day}T000000Z/index.db" for day in (2, 3, 1)]
+    monkeypatch.setattr(RESTORE.glob, "glob", lambda _: names)
+    assert f"To go back to it: index-restore {names[1]}\n" in RESTORE.way_back(f"{tmp_path}/before-now")
+
+
+def test_restores_that_were_killed_are_told_the_oldest_first(tmp_path, monkeypatch, capsys):
+    world = World(tmp_path, monkeypatch)
+    notes = [f"{world.folder}/before-{at}/unfinished" for at in (2, 3, 1)]
+    for note in notes:
+        os.mkdir(os.path.dirname(note))
+        with open(note, "w") as made:
+            made.write("another copy")
+    monkeypatch.setattr(RESTORE.glob, "glob", lambda pattern: notes if pattern.endswith("unfinished") else [])
+    assert RESTORE.left_by_a_kill(str(world.folder), world.db, world.copy) is None
+    assert [it[-1] for it in capsys.readouterr().out.splitlines()] == ["1", "2", "3"]
+    assert not any(map(os.path.exists, notes))
+
+
+@pytest.mark.parametrize("is_undone, said", [(True, "they have their names again"),
+                                             (False, "its copy is not in place")])
+def test_a_restore_that_was_killed_while_it_moved_files_is_undone_and_told(tmp_path, monkeypatch, capsys, is_undone,
+                                                                          said):
+    world = World(tmp_path, monkeypatch)
+    for name in ("restoring-1", "before-1"):
+        os.mkdir(world.folder / name)
+    (world.folder / "restoring-1" / "index.db").touch()
+    (world.folder / "before-1" / "unfinished").write_text("x")
+    monkeypatch.setattr(RESTORE, "put_names_back", lambda *_: is_undone)
+    asked = calls(monkeypatch, RESTORE, "forget")
+    monkeypatch.setattr(RESTORE.glob, "glob", lambda it: [f"{world.folder}/restoring-1"] if "restoring" in it else [])
+    assert RESTORE.left_by_a_kill(str(world.folder), world.db, world.copy) is None
+    assert said in capsys.readouterr().out and asked == ([] if is_undone else [(f"{world.folder}/before-1",)])
+    assert not (world.folder / "restoring-1").exists()
+
+
+def test_a_restore_that_was_killed_when_its_copy_was_in_place_is_only_finished(tmp_path, monkeypatch, capsys):
+    world = World(tmp_path, monkeypatch)
+    os.mkdir(world.folder / "before-1")
+    (world.folder / "before-1" / "unfinished").write_text(RESTORE.known_as(world.copy))
+    found = RESTORE.left_by_a_kill(str(world.folder), world.db, world.copy)
+    assert found == f"{world.folder}/before-1" and "This run only finishes it" in capsys.readouterr().out
+    assert (world.folder / "before-1" / "unfinished").exists()
+
+
+@pytest.mark.parametrize("is_new, said", [(True, "enabled: a.timer b.timer\n"), (False, "These units are not enabled")])
+def test_units_that_are_off_are_enabled_on_a_new_machine_or_named(tmp_path, monkeypatch, capsys, is_new, said):
+    world = World(tmp_path, monkeypatch, new=is_new, complete=True)
+    monkeypatch.setattr(RESTORE, "not_enabled", lambda _: ["a.timer", "b.timer"])
+    RESTORE.finish(world.words, world.db, world.units, str(world.folder))
+    assert said in capsys.readouterr().out
+    assert ("systemctl enable --now a.timer b.timer" in world.order) == is_new

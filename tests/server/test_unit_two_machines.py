@@ -6,6 +6,7 @@ import subprocess
 
 import pytest
 from support.needed import want_command
+from support.places import TOP
 from support.running import run_command
 from support.server.stand_ins import called, stand_ins, written
 from support.server.two_machines import DUMPED, FILES, LEFT, SERVES, SHOWN, SIGNALS, Machine
@@ -20,7 +21,8 @@ COMMANDS = {"index-take": (TAKEN, SERVES), "index-leave": (GIVEN_UP, LEFT)}
 BETWEEN = {"index-take": [LEFT, ("Primary", "", False), ("Primary", "/dev/drbd0", False), SERVES],
            "index-leave": [SERVES, ("Primary", "/dev/drbd0", False), ("Primary", "", False), LEFT]}
 # what only reads comes first
-READS = 3
+READS = {"index-take": 4, "index-leave": 3}
+NO_NAME = "is not the name of a resource"
 
 
 @pytest.fixture
@@ -52,6 +54,24 @@ def test_the_second_time_a_command_changes_nothing(machine, name):
         ended = machine.run(name)
         assert (ended.returncode, machine.state()) == (0, COMMANDS[name][1]), ended
     assert [line for line in machine.called() if "mount" in line.split()[0]] == []
+
+
+def test_what_says_that_the_other_machine_is_off_has_one_path():
+    """In what believes it, what takes it away, and what a person types."""
+    paths = []
+    for name in ("server/two-machines/index-fence", "server/bin/index-take", "docs/operators/TWO-MACHINES.md"):
+        with open(f"{TOP}/{name}", encoding="utf-8") as kept:
+            paths += re.findall(r"(?:INDEX_FENCE_SAID:-|\"INDEX_FENCE_SAID\", \"|^touch )(/[\w/-]+)", kept.read(), re.M)
+    assert paths == ["/run/index-peer-is-off"] * 3
+
+
+@pytest.mark.parametrize("peer", [True, False])
+def test_that_the_other_machine_is_off_is_believed_for_one_takeover_alone(machine, folder, peer):
+    said = f"{folder}/said"
+    machine.put(said="", **({"peer": ""} if peer else {}))
+    os.rename(f"{machine.at}/said", said)
+    ended = machine.run("index-take", INDEX_FENCE_SAID=said)
+    assert (ended.returncode, os.path.exists(said)) == (int(peer), False), ended
 
 
 WRONG = [
@@ -86,13 +106,14 @@ def test_each_part_that_is_wrong_is_named(machine, name):
     assert all(it in ended.stdout for it in ("resource-and-stonith", "protocol", "fence-peer")), ended
 
 
-@pytest.mark.parametrize("words, status", [
-    (["nosuch"], 1), (["../index"], 1), (["index;reboot"], 1), ([""], 1), (["/dev/drbd0"], 1), (["index", "index"], 2),
-    (["--force"], 2), (["-f"], 2)])
-def test_a_wrong_name_changes_nothing(machine, name, words, status):
+@pytest.mark.parametrize("words, status, said", [
+    (["nosuch"], 1, "'nosuch' not defined"), (["../index"], 1, NO_NAME), (["index;reboot"], 1, NO_NAME),
+    (["index "], 1, NO_NAME), ([""], 1, NO_NAME), (["/dev/drbd0"], 1, NO_NAME), (["index", "index"], 2, "RESOURCE"),
+    (["--force"], 2, "RESOURCE"), (["-f"], 2, "RESOURCE")])
+def test_a_wrong_name_changes_nothing(machine, name, words, status, said):
     before, ended = machine.state(), machine.run(name, *words)
     assert (ended.returncode, machine.called(), machine.state()) == (status, [], before), ended
-    assert ended.stdout
+    assert said in ended.stdout, ended
 
 
 @pytest.mark.parametrize("shown", ["", "resource other {\n    fencing resource-and-stonith;\n}\n"])
@@ -101,6 +122,12 @@ def test_a_disk_that_is_not_up_is_named_with_the_command_for_it(machine, name, s
     before, ended = machine.state(), machine.run(name)
     assert (ended.returncode, machine.called(), machine.state()) == (1, [], before)
     assert "drbdadm up index" in ended.stdout
+
+
+def test_a_warning_before_the_configuration_changes_nothing(machine, name):
+    machine.put(shown=f"DRBD module version: 8.4.11\n   userland version: 9.22.0\n{SHOWN}")
+    ended = machine.run(name)
+    assert (ended.returncode, machine.state()) == (0, COMMANDS[name][1]), ended
 
 
 @pytest.mark.parametrize("word", ["-h", "--help"])
@@ -134,7 +161,7 @@ def test_while_the_other_machine_may_be_primary_nothing_is_mounted(machine):
 @pytest.mark.parametrize("number", SIGNALS)
 @pytest.mark.parametrize("at", [1, 2, 3])
 def test_a_signal_at_each_step_ends_it_behind_that_step_and_it_goes_on_or_back(machine, name, at, number):
-    machine.put(stops=f"{READS + at}", signal=number)
+    machine.put(stops=f"{READS[name] + at}", signal=number)
     ended = machine.run(name)
     assert ended.returncode == -getattr(signal, f"SIG{number}"), ended
     assert machine.state() == BETWEEN[name][at] and machine.called() == COMMANDS[name][0][:at]
@@ -147,7 +174,7 @@ def test_a_signal_at_each_step_ends_it_behind_that_step_and_it_goes_on_or_back(m
 
 @pytest.mark.parametrize("at", [1, 2, 3])
 def test_a_step_that_fails_ends_it_there_and_it_goes_on_or_back(machine, name, at):
-    machine.put(fails=f"{READS + at}")
+    machine.put(fails=f"{READS[name] + at}")
     ended = machine.run(name)
     assert ended.returncode == 1 and "no luck" in ended.stdout, ended
     assert machine.state() == BETWEEN[name][at - 1] and machine.called() == COMMANDS[name][0][:at]
@@ -157,11 +184,31 @@ def test_a_step_that_fails_ends_it_there_and_it_goes_on_or_back(machine, name, a
         assert (ended.returncode, machine.state()) == (0, COMMANDS[again][1]), ended
 
 
-@pytest.mark.parametrize("at", [1, 2, 3])
+@pytest.mark.parametrize("name, at", [(name, at) for name, reads in READS.items() for at in range(1, reads + 1)])
 def test_a_disk_that_can_not_be_asked_is_left_alone(machine, name, at):
     machine.put(fails=f"{at}")
     before, ended = machine.state(), machine.run(name)
     assert (ended.returncode, machine.called(), machine.state()) == (1, [], before)
+
+
+@pytest.mark.parametrize("disks", ["Inconsistent/UpToDate", "Diskless/UpToDate", "Failed/UpToDate"])
+def test_a_copy_that_is_not_whole_is_refused_though_drbd_would_take_it(machine, disks):
+    machine.put(disks=f"Command 'drbdsetup dstate' did not terminate within 5 seconds\n{disks}\n")
+    ended = machine.run("index-take")
+    assert (ended.returncode, machine.called(), machine.state()) == (1, [], LEFT), ended
+    assert disks.partition("/")[0] in ended.stdout and "drbdadm dstate index prints" in ended.stdout
+
+
+def test_a_machine_that_serves_by_the_other_ones_disk_may_be_told_again_to_serve(machine):
+    assert machine.run("index-take").returncode == 0
+    machine.put(disks="Inconsistent/UpToDate\n")
+    assert (machine.run("index-take").returncode, machine.state()) == (0, SERVES)
+
+
+@pytest.mark.parametrize("disks", ["UpToDate/Inconsistent", "Consistent/DUnknown"])
+def test_another_copy_is_left_to_drbd(machine, disks):
+    machine.put(disks=f"{disks}\n")
+    assert (machine.run("index-take").returncode, machine.state()) == (0, SERVES)
 
 
 # the role and the disk, the status of the power switch, whether a person said that the other machine is off: the

@@ -40,9 +40,9 @@ def test_a_unit_of_another_database_is_refused(tmp_path, monkeypatch):
 
 @pytest.mark.parametrize("unit, names", [
     ("index.service", ["index.service", "index-backup.timer", "index-health.timer", "index-alarms.timer",
-                       "index-certificate.timer"]),
+                       "index-certificate.timer", "index-uncache-follow.service"]),
     ("index@8081.service", ["index@8081.service", "index-backup@8081.timer", "index-health@8081.timer",
-                            "index-alarms.timer", "index-certificate.timer"]),
+                            "index-alarms.timer", "index-certificate.timer", "index-uncache-follow.service"]),
     ("mine.service", ["mine.service"]), ("index-page.service", ["index-page.service"])])
 def test_the_timers_beside_a_unit_are_those_of_its_index(unit, names):
     assert units.beside(unit) == names
@@ -50,7 +50,7 @@ def test_the_timers_beside_a_unit_are_those_of_its_index(unit, names):
 
 def test_only_what_is_there_and_disabled_is_off_at_the_next_start(monkeypatch):
     states = {"index.service": "enabled", "index-backup.timer": "disabled", "index-health.timer": "", "b": "disabled",
-              "index-alarms.timer": "static", "index-certificate.timer": "enabled"}
+              "index-alarms.timer": "static", "index-certificate.timer": "enabled", "index-uncache-follow.service": ""}
     asked = calls(monkeypatch, units, "shown", lambda unit, name: states[unit])
     assert units.not_enabled(["index.service", "b"]) == ["index-backup.timer", "b"]
     assert {name for _, name in asked} == {"UnitFileState"}

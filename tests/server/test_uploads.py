@@ -85,7 +85,9 @@ class TestWrong:
         assert_ends(uploads.run(no_archive.name), 2, "can't be read")
 
     def test_a_name_of_another_kind(self, uploads):
-        assert_ends(uploads.run(f"{uploads.folder}/frob-7.0.zip"), 2, "not the name of a wheel")
+        with open(f"{uploads.folder}/frob-7.0.zip", "wb") as archive:
+            archive.write(b"an archive")
+        assert_ends(uploads.run(archive.name), 2, "not the name of a wheel")
 
     @pytest.mark.parametrize("setting, said", [
         ({"INDEX_URL": None}, "INDEX_URL"), ({"INDEX_URL": "http://packages.example"}, "https"),
@@ -109,7 +111,8 @@ class TestLate:
         with filled_index.away():
             late = subprocess.Popen(words, stderr=subprocess.PIPE, stdout=subprocess.PIPE,
                                     env={**os.environ, **setting}, text=True)
-            asked_again = late.stderr.readline()
+            # the first line says where to
+            asked_again = late.stderr.readline() + late.stderr.readline()
         said = late.communicate(timeout=60)[0]
         assert "Again in" in asked_again
         assert (late.returncode, "1 of 1 files are there" in said) == (0, True), said

@@ -87,7 +87,7 @@ class TestKilled:
             looked(is_sound(killing.program, path, [killing.judge.rows(LINES)]))
 
 
-@pytest.mark.parametrize("history", range(HISTORIES))
+@pytest.mark.parametrize("history", [0, *(pytest.param(it, marks=pytest.mark.slow) for it in range(1, HISTORIES))])
 def test_serve_keeps_what_it_acknowledged(program, folder, chance, looked, history, pytestconfig):
     """One index is served and killed again and again; each round serves the files of the round before."""
     path, asked, before = f"{folder}/index.db", Acknowledged(chance), []

@@ -1,8 +1,8 @@
 """Two machines share a disk by DRBD, as docs/operators/TWO-MACHINES.md sets them up, in its blocks as they stand.
 
 They are virtual machines with Debian's kernel. The power of the one that serves is cut, or the cable between them.
-After each takeover all that was acknowledged is there; and never do two indexes accept, but with DRBD's own defaults,
-with which one file name stands for two bodies.
+After each takeover all that was acknowledged is there; and never do two indexes accept. With DRBD's own defaults one
+file name stands for two bodies, and acknowledged uploads are lost.
 
 Each part takes some minutes, so the gate runs one now and then, by turns. `--two-machines` runs all, `-k rounds` one;
 `--rounds N` does N rounds or partitions."""
@@ -11,9 +11,13 @@ from __future__ import annotations
 import tempfile
 
 import pytest
-from support.two_machines.image import want_packages
-from support.two_machines.partitions import defaults_of_drbd, pull_the_cable
+from support.needed import want_command
+from support.two_machines.guests import DISK_MIB
+from support.two_machines.image import command, want_packages
+from support.two_machines.latency import measure
+from support.two_machines.partitions import alone_with_defaults, defaults_of_drbd, pull_the_cable
 from support.two_machines.rounds import cut_again_and_again
+from support.two_machines.second_cuts import cut_both, cut_in_a_resync
 from support.two_machines.set_up import served_by_two
 
 ROUNDS = 3
@@ -47,18 +51,54 @@ def cable(program, folder, count, chance, looked):
 
 
 def defaults(program, folder, count, chance, looked):
-    """With DRBD's defaults two indexes accept, so that the parts above can fail."""
+    """With DRBD's defaults two indexes accept, and acknowledged uploads are lost, so that the parts above can fail."""
     with served_by_two(program, folder) as (pair, index):
         looked(index.claim("cable")[0] == 200)
-        defaults_of_drbd(pair, index, looked)
+        second = defaults_of_drbd(pair, index, looked)
+        alone_with_defaults(pair, second, folder, program, chance, looked)
+
+
+def both(program, folder, count, chance, looked):
+    """The power of both machines is cut at once: nothing that was acknowledged is lost."""
+    with served_by_two(program, folder) as (pair, index):
+        looked(index.claim("frob")[0] == 200)
+        cut_both(pair, index, folder, program, count, chance, looked)
+
+
+def resync(program, folder, count, chance, looked):
+    """The power is cut while a machine is brought up to date, of the one that serves: nothing is lost there, and the
+    other one does not serve."""
+    with served_by_two(program, folder) as (pair, index):
+        looked(index.claim("frob")[0] == 200)
+        cut_in_a_resync(pair, index, folder, program, count, chance, looked)
+
+
+def latency(program, folder, count, chance, looked):
+    """How long an upload takes with DRBD over links of several lengths, and without DRBD. It prints what it finds."""
+    want_command("tc", "iproute2")
+    with open(f"{folder}/plain", "wb") as disk:
+        disk.truncate(DISK_MIB << 20)
+    with served_by_two(program, folder, [command("tc")], ["sch_netem"], f"{folder}/plain") as (pair, index):
+        measure(pair, index, count, chance, looked)
 
 
 PARTS = {"rounds": rounds, "cable": cable, "defaults": defaults}
+BY_HAND = {"both": both, "resync": resync, "latency": latency}
 
 
 @pytest.mark.by_turns("two_machines")
 @pytest.mark.parametrize("part", PARTS)
 def test_two_machines(part, program, disks, chance, looked, pytestconfig):
+    run_part(PARTS, part, program, disks, chance, looked, pytestconfig)
+
+
+@pytest.mark.by_hand("two_machines")
+@pytest.mark.parametrize("part", BY_HAND)
+def test_two_machines_again(part, program, disks, chance, looked, pytestconfig):
+    run_part(BY_HAND, part, program, disks, chance, looked, pytestconfig)
+
+
+def run_part(parts, part, program, disks, chance, looked, pytestconfig):
     want_packages()
     print(f"{part}: seed {pytestconfig.option.seed}", flush=True)
-    PARTS[part](program, disks, pytestconfig.option.rounds or ROUNDS, chance, looked)
+    parts[part](program, disks, pytestconfig.option.rounds or ROUNDS, chance, looked)

@@ -84,6 +84,8 @@ class Break:
         """How its tests end in a copy in this folder."""
         made = self.make(f"{folder}/copy", program)
         words = ["--alter", self.alter] if self.alter else []
+        # what it names is run also where the gate takes turns
+        words += ["--walks", "--machine"]
         # of one test the first failure is enough
         words += ["-x"] if len(self.caught) == 1 else []
         return run_tests(f"{folder}/copy", self.caught, "--program", made, *words, seconds=seconds)

@@ -128,7 +128,7 @@ class Recording:
             with Index(self.program, len(messages), self.path, setting=setting, at=7) as index:
                 for message in messages:
                     reply_to(index.port, message)
-                index.process.wait(timeout=30)
+                index.process.wait(timeout=60)
         return seen_by_sqlite(self.path)[1]
 
 

@@ -2,6 +2,8 @@
 from __future__ import annotations
 
 import json
+import os
+import re
 from pathlib import Path
 
 FOLDER = Path(__file__).resolve().parent.parent / "out"
@@ -17,11 +19,16 @@ def read(path: Path) -> dict[str, float]:
 
 
 def write(path: Path, seconds: dict[str, float]) -> None:
-    """Adds what was measured to what is there."""
+    """Adds what was measured to what is there. Tests that run tests write too, each a file of its own first."""
     FOLDER.mkdir(exist_ok=True)
-    made = path.with_suffix(".new")
+    made = path.with_suffix(f".{os.getpid()}")
     made.write_text(json.dumps({**read(path), **{name: round(took, 2) for name, took in seconds.items()}}))
     made.replace(path)
+
+
+def name_of(test: str) -> str:
+    """The name of a test without that of its group, which xdist writes behind it."""
+    return re.sub(r"@[^@\]]+$", "", test)
 
 
 def rooms(known: set[str] | None = None) -> dict[str, tuple[int, float]]:

@@ -26,7 +26,7 @@ class Served:
         try:
             with Index(program, len(MESSAGES), path, setting=setting, at=MOMENT) as index:
                 self.ask(index.port)
-                self.status = index.process.wait(timeout=30)
+                self.status = index.process.wait(timeout=60)
                 self.said = index.errors()
             # a connection that it didn't take before it ended was not asked
             while self.status and self.replies and not self.replies[-1]:

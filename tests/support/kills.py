@@ -6,7 +6,7 @@ from dataclasses import dataclass, field
 from support.judge import Judge, copy_index
 from support.running import run
 
-# a kill that came too late is tried again so often
+# so many kills are made, the last of them at once: a machine may be less busy than when it was measured
 TRIALS = 20
 
 
@@ -38,13 +38,14 @@ class Killing:
         return self.lasting[job.words[0]]
 
     def outputs(self, job, path, chance):
-        """What runs printed: those whose kill came too late, the first that was killed in time, and one that was not
-        killed. Each leaves its index at the path until the next."""
+        """What runs printed: those whose kill came too late, each earlier than the one before, the first that was
+        killed in time, and one that was not killed. Each leaves its index at the path until the next."""
         longest, is_killed = self.lasts(job, path), False
         for _ in range(TRIALS):
             if not is_killed:
                 copy_index(job.first, path)
-                status, output = self.killed(job, path, chance.uniform(0, longest))
+                longest = chance.uniform(0, longest)
+                status, output = self.killed(job, path, longest)
                 is_killed = status != 0
                 yield output
         assert is_killed, f"{TRIALS} kills came too late"

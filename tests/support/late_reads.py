@@ -80,7 +80,7 @@ class LateReads:
                 replies.append(reply_to(index.port, self.message))
             except ConnectionRefusedError:
                 replies.append(b"")
-            return replies, index.process.wait(timeout=30), index.errors(), (opened, read)
+            return replies, index.process.wait(timeout=60), index.errors(), (opened, read)
 
     def all(self, count: int) -> None:
         looked = self.runs.looked

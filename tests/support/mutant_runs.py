@@ -4,15 +4,18 @@ from __future__ import annotations
 
 import ast
 import concurrent.futures
+import functools
 import glob
 import json
 import math
 import os
 import random
+import re
 import shutil
 import tempfile
 import threading
 from collections import Counter
+from collections.abc import Iterator
 from dataclasses import dataclass, field
 
 from support.breaks import all_breaks
@@ -26,15 +29,12 @@ WANTED = 0.85
 # by chance fewer are caught of a few mutants: in one run of so many of a room that catches just what is wanted
 BY_CHANCE = 1_000
 # how long the unit tests may take on one mutant, the others of its file, and one test of these
-SECONDS_OF_UNITS, SECONDS_OF_ROOM, SECONDS_OF_TEST = 120, 300, 90
-# the rooms, and their tests for a file that no break changes
+SECONDS_OF_UNITS, SECONDS_OF_ROOM, SECONDS_OF_TEST = 300, 300, 90
+# the rooms, and how many of the files of their tests are run for a file that no break changes
 ROOMS = {"server": "tests/server", "indexctl": "tests/indexctl"}
+FILES_OF_ROOM = 4
 # what is only run by `tools/package`, whose tests build the package
 LEFT_OUT = ("indexctl/build.py",)
-
-
-class Broken(Exception):
-    """The tests can't say anything of mutants."""
 
 
 def python_files() -> dict[str, str]:
@@ -67,16 +67,35 @@ def seen_by_file() -> dict[str, list[str]]:
 
 
 def units_of(file: str) -> list[str]:
-    """The unit tests of the room of a file, and of the other if the file is one that they share."""
+    """The unit tests of the room of a file, and of the other if the file is one that they share. A program is run by
+    those alone that name it, or the folder of all."""
     rooms = ROOMS.values() if file.startswith("server/lib/") else [ROOMS[file.partition("/")[0]]]
-    return [os.path.relpath(it, TOP) for room in rooms for it in sorted(glob.glob(f"{TOP}/{room}/test_unit_*.py"))]
+    found = by_name([it for room in rooms for it in glob.glob(f"{TOP}/{room}/test_unit_*.py")], file)
+    names = {os.path.basename(file), "BIN"}
+    return [it for it in found if not file.startswith("server/bin/") or names & words_in(it).keys()]
 
 
 def others_of(file: str, table: dict[str, list[str]]) -> list[str]:
-    """The other tests of a file: by the breaks, or those of its room."""
-    room = ROOMS[file.partition("/")[0]]
-    found = table.get(file) or [os.path.relpath(it, TOP) for it in sorted(glob.glob(f"{TOP}/{room}/test_*.py"))]
-    return [it for it in found if not os.path.basename(it).startswith("test_unit_")]
+    """The other tests of a file: by the breaks, or else some of its room."""
+    def is_other(test: str) -> bool:
+        return not os.path.basename(test).startswith("test_unit_")
+
+    of_room = filter(is_other, glob.glob(f"{TOP}/{ROOMS[file.partition('/')[0]]}/test_*.py"))
+    return [*filter(is_other, table.get(file, []))] or by_name([*of_room], file)[:FILES_OF_ROOM]
+
+
+def by_name(tests: list[str], file: str) -> list[str]:
+    """These test files, first the one that has the name of a file, then those that name it most often."""
+    name = os.path.basename(file).removesuffix(".py")
+    return sorted((os.path.relpath(it, TOP) for it in tests),
+                  key=lambda it: (not it.endswith(f"_{name.removeprefix('index-')}.py"), -words_in(it)[name], it))
+
+
+@functools.cache
+def words_in(test: str) -> Counter[str]:
+    """How often each word stands in a test file."""
+    with open(f"{TOP}/{test}", encoding="utf-8") as kept:
+        return Counter(re.findall(r"[\w-]+", kept.read()))
 
 
 @dataclass
@@ -103,12 +122,12 @@ class MutantRuns:
     lock: threading.Lock = field(default_factory=threading.Lock)
     copies: threading.local = field(default_factory=threading.local)
 
-    def all(self, mutants: list[Mutant], jobs: int, clock) -> list[Result]:
-        """What becomes of each of these, until the time is over."""
+    def all(self, mutants: list[Mutant], jobs: int, clock) -> Iterator[Result]:
+        """What becomes of each of these, as it comes, until the time is over."""
         with tempfile.TemporaryDirectory() as folder, concurrent.futures.ThreadPoolExecutor(jobs) as pool:
             os.chmod(folder, 0o755)
             self.folder = folder
-            return [it for it in pool.map(lambda one: self.one(one) if clock() < self.until else None, mutants) if it]
+            yield from filter(None, pool.map(lambda it: self.one(it) if clock() < self.until else None, mutants))
 
     def copy(self) -> str:
         """The copy of this thread."""
@@ -133,8 +152,8 @@ class MutantRuns:
 
     def caught(self, copy: str, tests: list[str], seconds: float) -> str:
         """The test that catches what is in the copy: it fails again by itself, so not by chance."""
-        found = caught_by(self.run(copy, tests, seconds), tests)
-        if "::" in found and self.run(copy, [found], seconds).status == 0:
+        found = caught_by(self.run(copy, tests, seconds))
+        if "::" in found and self.run(copy, [function_of(found)], seconds).status == 0:
             return ""
         return found
 
@@ -148,19 +167,21 @@ class MutantRuns:
             is_known = test in self.known
             one = self.known.setdefault(test, concurrent.futures.Future())
         if not is_known:
-            one.set_result("::" not in test or self.run(copy, [test], seconds).status == 0)
+            one.set_result("::" not in test or self.run(copy, [function_of(test)], seconds).status == 0)
         return one.result()
 
 
-def caught_by(ended: Ended, tests: list[str]) -> str:
-    """The test that failed, or the file that can't be imported; or none."""
-    if ended.status == -1:
-        return f"{tests[0]}, which took too long"
-    if ended.status == 1 or ended.status == 2 and ended.errors:
-        return sorted([*ended.failed, *ended.errors])[0]
-    if ended.status in (0, 5):
-        return ""
-    raise Broken(f"pytest ended with {ended.status}: {ended.said[-2_000:]}")
+def function_of(test: str) -> str:
+    """A test without its parameters: pytest prints a `//` in these as one `/`, and does not find it again."""
+    return test.partition("[")[0]
+
+
+def caught_by(ended: Ended) -> str:
+    """The test that failed, or the file that can't be imported; or none. All of them may take too long on a busy
+    machine, and name none: a test that hangs fails by its own limit. A mutant may end pytest itself, by a signal or
+    since conftest.py can't be imported, and no test is named then either."""
+    named = sorted([*ended.failed, *ended.errors])
+    return named[0] if ended.status in (1, 2) and named else ""
 
 
 def draw(count: int, seed: object) -> list[Mutant]:

@@ -47,6 +47,7 @@ def add_options(parser) -> None:
                     "no clause refuses one")
     group.addoption("--share", type=share, metavar="K/N", help="a share of what --breaks and --build run, and the "
                     "mutants of Python, by turns: each whose place is K, modulo N")
+    group.addoption("--alone", action="store_true", help="run each test that is named, whatever its turn is")
     group.addoption("--mutants", type=whole_number, metavar="N", help="also make so many mutants of server/ and "
                     "indexctl/: ten seconds each")
     group.addoption("--mutant-jobs", type=whole_number, metavar="N", default=2, help="so many of them at once; 2 if "
@@ -56,5 +57,9 @@ def add_options(parser) -> None:
     group.addoption("--kept-programs", metavar="FOLDER", help="where wrong programs are kept that were built")
     group.addoption("--two-machines", action="store_true", help="also cut the power and the cable of two virtual "
                     "machines: some minutes each")
+    group.addoption("--walks", action="store_true", help="also stop `user leave` and `replay` at each step, by each "
+                    "signal: some minutes each; with --machine, an upgrade at each too")
+    group.addoption("--machine", action="store_true", help="also paste blocks of the pages on a machine that systemd "
+                    "started, and stop an upgrade there: some minutes")
     group.addoption("--file-systems", metavar="NAMES", default="ext4", help="those whose power is cut: of ext4, xfs "
                     "and btrfs")

@@ -10,6 +10,11 @@ SERVER, BIN, NGINX = f"{TOP}/server", f"{TOP}/server/bin", f"{TOP}/server/nginx"
 INDEXCTL = [sys.executable, "-S", f"{TOP}/indexctl"]
 
 
+def is_program(path: str) -> bool:
+    """Whether a file is there that can be run."""
+    return os.path.isfile(path) and os.access(path, os.X_OK)
+
+
 def built_program() -> str:
     """The proved program, or else the one that `tools/try` made; where the proved one would be if neither is there."""
-    return next((it for it in (PROGRAM, UNPROVED) if os.access(it, os.X_OK)), PROGRAM)
+    return next(filter(is_program, (PROGRAM, UNPROVED)), PROGRAM)

@@ -20,7 +20,8 @@ def free_port() -> int:
     if not FILE:
         # once: a process loses its locks of a file as soon as it closes one descriptor of it
         FILE.append(os.open(LOCKS, os.O_RDWR | os.O_CREAT | os.O_CLOEXEC, 0o600))
-    for port in random.SystemRandom().sample(PORTS, len(PORTS)):
+    first = random.SystemRandom().randrange(len(PORTS))
+    for port in (*PORTS[first:], *PORTS[:first]):
         if port not in HELD and is_locked(port) and not is_used(port):
             HELD.add(port)
             return port

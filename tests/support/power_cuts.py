@@ -7,7 +7,7 @@ import random
 import shutil
 import subprocess
 from collections.abc import Callable, Iterator
-from contextlib import suppress
+from contextlib import AbstractContextManager, suppress
 from dataclasses import dataclass
 
 from support.disk.mounted import Mounted, WritesEarly
@@ -26,29 +26,44 @@ Rows = dict
 Mark = Callable[[], None]
 
 
+def nothing_beside(path: str, answered: int) -> str:
+    """Of a run that has no other files than the index."""
+    return ""
+
+
 @dataclass(frozen=True)
 class Job:
     """A run of the program. `prepare` makes what it finds at a path, `drive` runs it there and calls its mark behind
-    each answer. `states` are the rows of the index behind each number of answers, None if there is no index."""
+    each answer. `states` are the rows of the index behind each number of answers, None if there is no index. `again`
+    is what a person does after a power cut before the first answer; it returns what is wrong with that, or nothing.
+    `room` are the MiB of disk that it wants, and `meanwhile` is what the kernel or another program writes. `beside`
+    returns what is wrong with other files beside the index, after so many answers, or nothing."""
     name: str
     prepare: Callable[[str], object]
     drive: Callable[[str, Mark], None]
     states: list[Rows | None]
+    again: Callable[[str], str] = lambda path: ""
+    room: int = 0
+    meanwhile: Callable[[str, random.Random], AbstractContextManager] = WritesEarly
+    beside: Callable[[str, int], str] = nothing_beside
 
 
 @dataclass(frozen=True)
 class Record:
     """A job that ran: the disk before it, what was done to the disk, and how much of that each answer stands behind."""
+    job: Job
     first: bytes
     entries: list[Entry]
     marks: list[int]
-    states: list[Rows | None]
+
+    def answered(self, place: int) -> int:
+        """How many answers were given by a place."""
+        return sum(mark <= place for mark in self.marks)
 
     def allowed(self, place: int) -> list[Rows | None]:
         """The rows that may be found if the power is cut at a place: those of the answers that were given by then, or
         these and the request that was in progress."""
-        answered = sum(mark <= place for mark in self.marks)
-        return self.states[answered:answered + 2]
+        return self.job.states[self.answered(place):self.answered(place) + 2]
 
 
 @dataclass(frozen=True)
@@ -62,7 +77,7 @@ class State:
 
 def recorded(job: Job, folder: str, file_system: str, options: str, chance: random.Random) -> Record:
     """Runs a job on a new file system, on which all that it finds has been written."""
-    with Mounted(folder, file_system, options) as at:
+    with Mounted(folder, file_system, options, job.room) as at:
         at.make()
         at.mount()
         path, marks = f"{at.folder}/index.db", []
@@ -71,11 +86,11 @@ def recorded(job: Job, folder: str, file_system: str, options: str, chance: rand
         # a mount writes too: ext4 notes that its log has to be read again
         first, start = bytes(at.disk.content), at.disk.place()
         at.mount()
-        with WritesEarly(path, chance):
+        with job.meanwhile(path, chance):
             job.drive(path, lambda: marks.append(at.disk.place()))
         places, entries = zip(*at.disk.entries(start))
         at.unmount()
-    return Record(first, list(entries), [bisect.bisect_right(places, mark) for mark in marks], job.states)
+    return Record(job, first, list(entries), [bisect.bisect_right(places, mark) for mark in marks])
 
 
 def init_job(program: str, judge: Judge) -> Job:
@@ -83,7 +98,12 @@ def init_job(program: str, judge: Judge) -> Job:
         ended = run(program, "init", "--db", path, *OFFICE)
         assert ended.stdout == b"created\n", ended
         mark()
-    return Job("init", lambda path: None, drive, [None, judge.rows(())])
+
+    def again(path: str) -> str:
+        ended = run(program, "init", "--db", path, *OFFICE)
+        is_there = ended.stdout == b"created\n" or ended.stderr.startswith(b"index: NotEmpty\n")
+        return "" if is_there else f"init again ended with {ended}"
+    return Job("init", lambda path: None, drive, [None, judge.rows(())], again)
 
 
 def apply_job(program: str, judge: Judge, **setting: str) -> Job:
@@ -186,11 +206,16 @@ class Tried:
 
 def try_states(program: str, record: Record, folder: str, file_system: str, most: int, chance: random.Random,
                flushes: bool = True) -> Tried:
-    """Lays `most` states of a record, spread over all of it, onto a disk, and opens the index there."""
-    number = sum(1 for _ in states_of(record, random.Random(0), flushes))
+    """Lays `most` states of a record, spread over all of it, onto a disk, and opens the index there. Of other files
+    each state right behind an answer is tried too: what was not flushed by then may be lost."""
+    places = [it.place for it in states_of(record, random.Random(0), flushes)]
+    number = len(places)
     chosen = set(chance.sample(range(number), min(most, number)))
+    if record.job.beside is not nothing_beside:
+        chosen |= {turn for turn, place in enumerate(places) if place in record.marks}
     wrong, done = [], 0
-    with Mounted(folder, file_system, "noatime") as at:
+    with Mounted(folder, file_system, "noatime", record.job.room) as at:
+        certain = bytearray(record.first)
         at.disk.content[:] = record.first
         for turn, state in enumerate(states_of(record, chance, flushes)):
             if turn not in chosen:
@@ -198,21 +223,24 @@ def try_states(program: str, record: Record, folder: str, file_system: str, most
             for entry in record.entries[done:state.certain]:
                 if not isinstance(entry, Flush):
                     at.disk.put(entry)
-            done = max(done, state.certain)
-            content = bytes(at.disk.content)
+                    certain[entry.at:entry.at + len(entry.data)] = entry.data
+            done, start = max(done, state.certain), at.disk.place()
             for write in state.writes:
                 at.disk.put(write)
-            found = fault_of(program, at, folder, record.allowed(state.place))
-            # what the kernel writes as it recovers is taken back too
-            at.disk.content[:] = content
+            found = fault_of(program, at, folder, record, state.place)
+            # what the kernel wrote as it recovered is taken back too
+            for _, entry in [*((0, write) for write in state.writes), *at.disk.entries(start)]:
+                if not isinstance(entry, Flush):
+                    at.disk.content[entry.at:entry.at + len(entry.data)] = certain[entry.at:entry.at + len(entry.data)]
             if found:
                 wrong.append(f"place {state.place} of {len(record.entries)}, {state.how}: {found}")
+        assert at.disk.content[:] == certain, "something was written that is not in the record"
     return Tried(len(chosen), number, wrong)
 
 
-def fault_of(program: str, at: Mounted, folder: str, allowed: list[Rows | None]) -> str:
-    """What is wrong with the index on a disk as it is, or nothing."""
-    path = f"{folder}/opened.db"
+def fault_of(program: str, at: Mounted, folder: str, record: Record, place: int) -> str:
+    """What is wrong with the index on a disk as it is after a power cut at a place, or nothing."""
+    here, path = f"{at.folder}/index.db", f"{folder}/opened.db"
     for end in ("", "-wal"):
         with suppress(FileNotFoundError):
             os.remove(path + end)
@@ -221,16 +249,14 @@ def fault_of(program: str, at: Mounted, folder: str, allowed: list[Rows | None])
     except OSError as end:
         return f"the kernel does not mount it: {end}"
     try:
-        copy_index(f"{at.folder}/index.db", path)
+        answered = record.answered(place)
+        found = record.job.beside(here, answered) or ("" if answered else record.job.again(here))
+        copy_index(here, path)
     except OSError as end:
         return f"a file can't be read: {end}"
     finally:
         at.unmount()
-    if None in allowed:
-        again = run(program, "init", "--db", path, *OFFICE)
-        if again.stdout != b"created\n" and not again.stderr.startswith(b"index: NotEmpty\n"):
-            return f"init again ended with {again}"
-    return fault_of_index(program, path, allowed)
+    return found or fault_of_index(program, path, record.allowed(place))
 
 
 def fault_of_index(program: str, path: str, allowed: list[Rows | None]) -> str:

@@ -5,14 +5,14 @@ from http.server import BaseHTTPRequestHandler, ThreadingHTTPServer
 
 
 class Handler(BaseHTTPRequestHandler):
-    timeout = 20
+    timeout = 60
 
     def do_GET(self):
         headers = {name: value for name, value in self.headers.items() if name.lower() not in ("host", "connection")}
         asked = headers.get("Accept", "")
         if self.server.accept:
             headers["Accept"] = self.server.accept
-        connection = http.client.HTTPConnection("127.0.0.1", self.server.behind, timeout=20)
+        connection = http.client.HTTPConnection("127.0.0.1", self.server.behind, timeout=60)
         try:
             connection.request("GET", self.path, headers=headers)
             reply = connection.getresponse()

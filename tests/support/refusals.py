@@ -80,7 +80,7 @@ class Lines:
 
 
 class Messages(Index):
-    """A server that is asked message by message, and keeps up to so many bytes at hand."""
+    """A server that is asked message by message, and caches up to so many bytes."""
 
     def __init__(self, program, path, refusals, keep):
         refusals.begin()

@@ -1,5 +1,6 @@
 """Runs of the built program and of other commands, and what they need: folders, C libraries, databases of other
 hands."""
+import functools
 import os
 import sqlite3
 import subprocess
@@ -24,12 +25,21 @@ def write_below(folder, path, text):
         made.write(text)
 
 
+@functools.cache
+def compiled(name):
+    """The bytes of the library of tests/support/NAME.c, which is compiled once in a run."""
+    with new_folder() as folder:
+        words = ["cc", "-std=gnu11", "-shared", "-fPIC", "-O1", "-o", f"{folder}/made", f"{TOP}/tests/support/{name}.c"]
+        subprocess.run([*words, "-ldl"], check=True, timeout=60)
+        with open(f"{folder}/made", "rb") as made:
+            return made.read()
+
+
 def built(name, folder):
-    """The library of tests/support/NAME.c, which is preloaded before the program."""
-    library = f"{folder}/{name}.so"
-    words = ["cc", "-std=gnu11", "-shared", "-fPIC", "-O1", "-o", library, f"{TOP}/tests/support/{name}.c", "-ldl"]
-    subprocess.run(words, check=True, timeout=60)
-    return library
+    """The path in this folder of the library of tests/support/NAME.c, which is preloaded before the program."""
+    with open(f"{folder}/{name}.so", "wb") as library:
+        library.write(compiled(name))
+    return library.name
 
 
 def run(program, *words, given=b"", setting=None, patience=60, **streams):

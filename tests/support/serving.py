@@ -26,7 +26,7 @@ OFFICE = "--user", "office", "--token-sha256", sha256(b"office")
 free_port = ports.free_port
 
 
-def listens(port, patience=10):
+def listens(port, patience=60):
     """Whether somebody listens on this port of loopback before so many seconds are over."""
     until = time.monotonic() + patience
     while time.monotonic() < until:
@@ -49,7 +49,7 @@ def exchange(connection, method, path, body, headers):
         connection.close()
 
 
-def reply_to(port, message, patience=30):
+def reply_to(port, message, patience=60):
     """What comes back for a message before the connection ends. One whose request was not read whole may be reset."""
     reply = b""
     with suppress(ConnectionResetError, BrokenPipeError):
@@ -86,7 +86,7 @@ class Running:
             self.process.wait(timeout=5)
         except subprocess.TimeoutExpired:
             self.process.kill()
-            self.process.wait(timeout=5)
+            self.process.wait(timeout=60)
         if self.process.stdout:
             self.process.stdout.close()
 
@@ -95,7 +95,7 @@ def make_index(program, path):
     """Makes a new index in this file. Its one user is `office`, with the token `office`."""
     words = [program, "init", "--db", path, *OFFICE]
     ended = subprocess.run(words, stdin=subprocess.DEVNULL, stdout=subprocess.PIPE, stderr=subprocess.STDOUT,
-                           timeout=10)
+                           timeout=60)
     if (ended.returncode, ended.stdout) != (0, b"created\n"):
         raise SystemExit(f"{program} init ended with {ended.returncode} {ended.stdout!r}")
     return path
@@ -132,7 +132,7 @@ class Index(Running, Asking):
     """The built program, serving the index in a file, or a new one. It listens on `listen`, or on `host`, where it is
     asked. `under` are the words of a command that becomes it. What it says on standard error is kept."""
 
-    def __init__(self, program, requests=1_000_000, path=None, patience=30, setting=None, port=0, at=None, keep=None,
+    def __init__(self, program, requests=1_000_000, path=None, patience=60, setting=None, port=0, at=None, keep=None,
                  host="127.0.0.1", listen=None, under=(), rounds=None):
         self.patience, self.program, self.host, self.listen = patience, program, host, listen or host
         self.said, self.folder = tempfile.TemporaryFile(), tempfile.TemporaryDirectory()
@@ -179,4 +179,4 @@ class Index(Running, Asking):
         return self.said.read()
 
     def ask(self, method, path, body=None, **headers):
-        return exchange(http.client.HTTPConnection(self.host, self.port, timeout=30), method, path, body, headers)
+        return exchange(http.client.HTTPConnection(self.host, self.port, timeout=60), method, path, body, headers)

@@ -9,7 +9,7 @@ from collections.abc import Callable
 from contextlib import suppress
 
 # longer than anybody waits for an index in a test
-LONG = 12
+LONG = 120
 
 
 class BrokenIndex:

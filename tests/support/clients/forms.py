@@ -16,12 +16,13 @@ from support.serving import Running, sha256
 BOUNDARY = "b0undary"
 END = f"--{BOUNDARY}--\r\n".encode()
 COMMAND = f"{BIN}/index-legacy-upload"
-# the same code with shorter times, so that a test need not wait as long
+# the same code with shorter times, so that a test need not wait as long: for a form, an index and a silent client
 HASTY = """import importlib.machinery, importlib.util, sys
 loader = importlib.machinery.SourceFileLoader("hasty", sys.argv.pop(1))
 service = importlib.util.module_from_spec(importlib.util.spec_from_loader("hasty", loader))
 loader.exec_module(service)
-service.FORM_SECONDS, service.INDEX_SECONDS, service.SILENT_SECONDS, service.Handler.timeout = 3, 3, 1, 1
+service.FORM_SECONDS, service.INDEX_SECONDS, service.SILENT_SECONDS = map(int, sys.argv.pop(1).split())
+service.Handler.timeout = service.SILENT_SECONDS
 sys.exit(service.main())
 """
 
@@ -70,8 +71,8 @@ def sent(port: int, *pieces: bytes, pause: float = 0, patience: float = 90) -> t
 class Service(Running):
     """index-legacy-upload on a free port, in front of an index on this port."""
 
-    def __init__(self, index_port: int, *more: str, is_hasty: bool = False) -> None:
-        words = [sys.executable, "-B", "-c", HASTY, COMMAND] if is_hasty else [sys.executable, "-B", COMMAND]
+    def __init__(self, index_port: int, *more: str, seconds: str = "") -> None:
+        words = [sys.executable, "-B", *(["-c", HASTY, COMMAND, seconds] if seconds else [COMMAND])]
         words += ["--listen", "127.0.0.1:0", "--index", f"127.0.0.1:{index_port}", *more]
         super().__init__(words, stdout=subprocess.PIPE, stderr=subprocess.DEVNULL)
 
@@ -97,7 +98,7 @@ class Service(Running):
             rows = dict(row.split(":", 1) for row in kept)
         return int(rows["VmHWM"].split()[0]) << 10, int(rows["Threads"])
 
-    def waits_for_threads(self, count: int, patience: float = 30) -> None:
+    def waits_for_threads(self, count: int, patience: float = 60) -> None:
         """Returns once it has so many threads beside its first: as many clients are read."""
         until = time.monotonic() + patience
         while self.memory()[1] <= count:

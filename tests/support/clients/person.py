@@ -2,6 +2,7 @@
 from __future__ import annotations
 
 import os
+import shlex
 import shutil
 import signal
 import subprocess
@@ -14,6 +15,7 @@ from support.clients.world import ANN, PASSWORD, Gate, World
 from support.needed import want_command
 from support.running import run_command, write_below
 from support.seen import Seen, end_seen, is_ended
+from support.server.waits import wait_for
 from support.serving import JSON_PAGE
 
 SYSTEM, DEBIAN = "/usr/local/bin:/usr/bin:/bin", "/usr/bin/python3"
@@ -62,7 +64,8 @@ class Person:
 
     def filled(self, text: str) -> str:
         """A text of the page with this index in place of packages.example, and with a token and a password."""
-        for old, new in {"https://packages.example": self.url, "packages.example": "127.0.0.1", "YOUR-TOKEN": ANN,
+        for old, new in {"https://packages.example": self.url, "@packages.example": f"@127.0.0.1:{self.port}",
+                         "packages.example": "127.0.0.1", "YOUR-TOKEN": ANN,
                          "/etc/ssl/packages-ca.pem": self.gate.authority, "YOUR-PASSWORD": PASSWORD}.items():
             text = text.replace(old, new)
         return text
@@ -91,9 +94,9 @@ class Person:
         """The end of the commands of a recipe, with this token in it."""
         return self.run(["bash", "-euc", self.filled(self.recipe(name).text.replace("YOUR-TOKEN", token))])
 
-    def takes(self, name: str) -> None:
-        """From now on the environment is as a recipe exports it."""
-        script = f"set -a\n{self.filled(self.recipe(name).text)}\nenv -0"
+    def takes(self, name: str, given: str = "") -> None:
+        """From now on the environment is as a recipe exports it, whose commands read what is given."""
+        script = f"set -a\nexec < <(echo {shlex.quote(given)})\n{self.filled(self.recipe(name).text)}\nenv -0"
         ended = self.run(["bash", "-euc", script])
         pairs = [it.partition("=") for it in ended.stdout.split("\0") if it]
         self.setting.update({key: value for key, _, value in pairs if key not in ("_", "SHLVL", "PWD", "OLDPWD")})
@@ -138,12 +141,17 @@ class Person:
         ended = self.run([*words, "-c", code])
         self.looks(ended.stdout.strip().split("\n")[-1] == printed, code, ended.stdout, f"{printed} in the last line")
 
-    def asked(self) -> list:
+    def asked(self, is_there: Callable[[list], object] = bool) -> list:
+        """What was asked, once that is there: nginx writes a line behind its reply."""
+        wait_for(lambda: is_there(self.gate.asked_at(self.port)))
         return self.gate.asked_at(self.port)
 
     def gets(self, kind: str, besides: Sequence[str] = ()) -> None:
         """The pages that came were `JSON` or `HTML`, and all was there that was asked for `besides` these paths."""
-        pages = [it for it in self.asked() if it[2].startswith("/simple/") and it[0] == "200"]
+        def pages_of(asked: list) -> list:
+            return [it for it in asked if it[2].startswith("/simple/") and it[0] == "200"]
+
+        pages = pages_of(self.asked(pages_of))
         wanted = JSON_PAGE if kind == "JSON" else "text/html; charset=utf-8"
         self.looks(bool(pages) and all(it[3] == wanted for it in pages), "pages", pages, f"each as {wanted}")
         wrong = [it for it in self.asked() if it[0] not in ("200", "206", "301", "304") and it[2] not in besides]

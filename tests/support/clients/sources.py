@@ -1,4 +1,5 @@
-"""Source archives and projects whose build asks for a backend, which comes from the index."""
+"""Source archives and projects whose build asks for a backend, which comes from the index; and what projects have
+before a recipe adds the index to them."""
 from __future__ import annotations
 
 import io
@@ -34,6 +35,25 @@ def build_sdist(folder, config_settings=None):
             archive.add(inner, f"{name}-{version}/{inner}")
     return file
 '''
+# what a project has before a recipe adds the index to it
+POETRY = """[tool.poetry]
+name = "mine"
+version = "1.0"
+description = ""
+authors = []
+
+[tool.poetry.dependencies]
+python = ">=3.8"
+
+"""
+PDM = '[project]\nname = "mine"\nversion = "1.0"\nrequires-python = ">=3.8"\ndependencies = []\n\n'
+# of a Debian package
+CHANGELOG = """frob (0.1-1) unstable; urgency=low
+
+  * x
+
+ -- A <a@packages.example>  Mon, 01 Jan 2024 00:00:00 +0000
+"""
 PYPROJECT = '[build-system]\nrequires = ["tiny_backend"]\nbuild-backend = "tiny_backend"\n'
 
 

@@ -69,13 +69,14 @@ def fill(index: Asking, packages: dict) -> None:
         accepted(index.claim(project, token))
 
 
-def make_authority(folder: str) -> str:
-    """A certificate of an authority, and one that it gave to 127.0.0.1: `ca.pem`, and `pem` with its `key`."""
+def make_authority(folder: str, *more: str) -> str:
+    """A certificate of an authority, and one that it gave to 127.0.0.1: `ca.pem`, and `pem` with its `key`. The first
+    has `more` by openssl's options."""
     kind = ["-newkey", "ec", "-pkeyopt", "ec_paramgen_curve:prime256v1", "-nodes"]
     with open(f"{folder}/extensions", "w") as made:
         made.write("subjectAltName=IP:127.0.0.1\n")
-    for words in (["req", "-x509", *kind, "-days", "2", "-subj", "/CN=Packages CA", "-keyout", f"{folder}/ca.key",
-                   "-out", f"{folder}/ca.pem"],
+    for words in (["req", "-x509", *kind, "-days", "2", "-subj", "/CN=Packages CA", *more, "-keyout",
+                   f"{folder}/ca.key", "-out", f"{folder}/ca.pem"],
                   ["req", *kind, "-subj", "/CN=127.0.0.1", "-keyout", f"{folder}/key", "-out", f"{folder}/request"],
                   ["x509", "-req", "-in", f"{folder}/request", "-CA", f"{folder}/ca.pem", "-CAkey", f"{folder}/ca.key",
                    "-CAcreateserial", "-days", "2", "-extfile", f"{folder}/extensions", "-out", f"{folder}/pem"]):
@@ -202,7 +203,7 @@ class World:
             port = stack.enter_context(altered(index.port, self.altered))
             service = stack.enter_context(Service(index.port))
             self.gate = stack.enter_context(Gate(f"{self.folder}/gate", certificate, port, service.port))
-            self.locked = stack.enter_context(Gate(f"{self.folder}/locked", certificate, port, service.port, 8, True))
+            self.locked = stack.enter_context(Gate(f"{self.folder}/locked", certificate, port, service.port, 24, True))
             for gate in (self.gate, self.locked):
                 os.symlink(f"{self.bin}/indexctl", f"{gate.folder}/indexctl")
             self.index = index

@@ -1,7 +1,9 @@
 """A file system of the kernel on a recording disk."""
 from __future__ import annotations
 
+import ctypes
 import fcntl
+import functools
 import os
 import random
 import subprocess
@@ -14,6 +16,8 @@ from support.disk.recording import RecordingDisk
 
 # of linux/fs.h: the kernel drops what it has in memory of a device
 BLKFLSBUF = 0x1261
+# of linux/sched.h and linux/mount.h
+CLONE_NEWNS, MS_REC, MS_PRIVATE = 0x20000, 1 << 14, 1 << 18
 MIB = 1 << 20
 # the least that each file system takes, in MiB
 SIZES = {"ext4": 48, "xfs": 320, "btrfs": 128}
@@ -38,6 +42,17 @@ def missing(file_system: str) -> str:
     return ""
 
 
+@functools.cache
+def have_own_mounts() -> None:
+    """From here on this process, and what it starts, has mounts of its own. A namespace of mounts that another program
+    makes would else keep what is mounted here, also when it is unmounted, and the next mount would find what the kernel
+    has of it in memory in place of the disk."""
+    libc = ctypes.CDLL(None, use_errno=True)
+    if libc.unshare(CLONE_NEWNS) or libc.mount(None, b"/", None, MS_REC | MS_PRIVATE, None):
+        code = ctypes.get_errno()
+        raise OSError(code, os.strerror(code), "mounts of its own")
+
+
 def command(*words: str) -> None:
     """Runs a command, which has to succeed within a minute."""
     ended = subprocess.run(words, stdin=subprocess.DEVNULL, stdout=subprocess.PIPE, stderr=subprocess.STDOUT, text=True,
@@ -47,11 +62,13 @@ def command(*words: str) -> None:
 
 
 class Mounted:
-    """A recording disk with a loop device on it, and the folder where its file system is mounted."""
+    """A recording disk with a loop device on it, and the folder where its file system is mounted. The disk has so many
+    MiB more than the file system takes."""
 
-    def __init__(self, folder: str, file_system: str, options: str) -> None:
+    def __init__(self, folder: str, file_system: str, options: str, more: int = 0) -> None:
+        have_own_mounts()
         self.file_system, self.options, self.folder = file_system, options, f"{folder}/mounted"
-        self.disk = RecordingDisk(f"{folder}/disk", SIZES[file_system] * MIB)
+        self.disk = RecordingDisk(f"{folder}/disk", (SIZES[file_system] + more) * MIB)
         self.device = ""
         os.makedirs(self.folder, exist_ok=True)
 

@@ -59,7 +59,7 @@ class RecordingDisk:
     def close(self) -> None:
         subprocess.run(["umount", "-l", self.folder], check=False)
         try:
-            self.server.wait(10)
+            self.server.wait(60)
         except subprocess.TimeoutExpired:
             self.server.kill()
             self.server.wait()

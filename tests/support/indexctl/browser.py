@@ -15,7 +15,7 @@ from typing import Any, Dict, Iterator, List, Optional, Tuple
 from support.indexctl.page import browser
 
 PATIENCE = 60
-# each text with its contrast to what is behind it (WCAG 2), if that is below a bound
+# each text, and each field, with its contrast to what is behind it (WCAG 2), if that is below a bound
 CONTRASTS = """(function (bound) {
   function parts(colour) { return colour.match(/[\\d.]+/g).map(Number); }
   function light(colour) {
@@ -31,17 +31,48 @@ CONTRASTS = """(function (bound) {
     }
     return [255, 255, 255];
   }
+  function ratio(one, other) {
+    var a = light(parts(one)), b = light(other);
+    return (Math.max(a, b) + 0.05) / (Math.min(a, b) + 0.05);
+  }
   var found = [], seen = 0, walk = document.createTreeWalker(document.body, NodeFilter.SHOW_TEXT);
   while (walk.nextNode()) {
     var node = walk.currentNode.parentElement;
     if (!walk.currentNode.data.trim() || node.closest("script, style, [hidden]")) { continue; }
-    var a = light(parts(getComputedStyle(node).color)), b = light(behind(node));
-    var ratio = (Math.max(a, b) + 0.05) / (Math.min(a, b) + 0.05);
+    var has = ratio(getComputedStyle(node).color, behind(node));
     seen += 1;
-    if (ratio < bound) { found.push(walk.currentNode.data.trim().slice(0, 40) + " " + ratio.toFixed(2)); }
+    if (has < bound) { found.push(walk.currentNode.data.trim().slice(0, 40) + " " + has.toFixed(2)); }
   }
+  // a field: what stands in it until something is typed, and its border, which needs less
+  document.querySelectorAll("input:not([hidden])").forEach(function (field) {
+    var told = ratio(getComputedStyle(field, "::placeholder").color, behind(field));
+    var border = ratio(getComputedStyle(field).borderTopColor, behind(field.parentElement));
+    seen += 2;
+    if (told < bound || border < 3) { found.push("field " + told.toFixed(2) + " " + border.toFixed(2)); }
+  });
   return {seen: seen, found: found};
 })(4.5)"""
+
+# each word of at most so many letters that stands on two lines; a file's name may be parted at its hyphens
+BROKEN_WORDS = """(function (most) {
+  var found = [], seen = 0, walk = document.createTreeWalker(document.body, NodeFilter.SHOW_TEXT);
+  while (walk.nextNode()) {
+    if (walk.currentNode.parentElement.closest("script, style, [hidden]")) { continue; }
+    for (var word of walk.currentNode.data.matchAll(/[\\w.]+/g)) {
+      if (word[0].length > most) { continue; }
+      var range = document.createRange();
+      range.setStart(walk.currentNode, word.index);
+      range.setEnd(walk.currentNode, word.index + word[0].length);
+      seen += 1;
+      if (range.getClientRects().length > 1) { found.push(word[0]); }
+    }
+  }
+  return {seen: seen, found: found};
+})(%d)"""
+# how wide a page is looked at, and the letters of the longest word that is not broken then: the longest id of a user on
+# a screen of a desk and on a telephone; on a tablet and on paper, where tables have little room, half as many
+WIDTHS = [({}, 32), ({"wide": 390, "is_telephone": True}, 32), ({"wide": 700}, 16), ({"wide": 900}, 16),
+          ({"wide": 718, "media": "print"}, 16)]
 
 
 class Page:
@@ -132,6 +163,19 @@ class Page:
         return [(it.get("role", {}).get("value", ""), it.get("name", {}).get("value", "")) for it in nodes
                 if not it.get("ignored")]
 
+    def settled(self) -> None:
+        """Waits until what a script has changed is drawn."""
+        script = "new Promise(d => requestAnimationFrame(() => requestAnimationFrame(() => setTimeout(d, 0))))"
+        self.call("Runtime.evaluate", expression=script, awaitPromise=True)
+
+    def spent(self) -> float:
+        """The seconds that a processor has worked for this page so far, without those in which others had it. Without
+        what a screen reader would get: to keep that takes several times as long, and few have one."""
+        self.call("Accessibility.disable")
+        self.call("Performance.enable", timeDomain="threadTicks")
+        found = {it["name"]: it["value"] for it in self.call("Performance.getMetrics")["metrics"]}
+        return float(found["TaskDuration"])
+
     def press(self, key: str) -> None:
         for kind in ("keyDown", "keyUp"):
             self.call("Input.dispatchKeyEvent", type=kind, key=key, code=key,
@@ -165,4 +209,4 @@ def opened() -> Iterator[Page]:
                 process.wait(timeout=10)
             except subprocess.TimeoutExpired:
                 process.kill()
-                process.wait(timeout=10)
+                process.wait(timeout=60)

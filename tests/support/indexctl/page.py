@@ -13,18 +13,18 @@ from support.needed import want_command
 BROWSERS = "chromium", "chromium-browser", "google-chrome"
 # a click on a head, a search and the width, whose ends stand in the title
 DRIVER = """<script>
-var find = document.getElementById("find"), heads = document.querySelectorAll("section:nth-of-type(3) th button");
+var find = document.getElementById("find"), heads = document.querySelectorAll("section:nth-of-type(4) th button");
 function there(kind) {
-  return Array.from(document.querySelectorAll(kind)).filter(function (it) { return !it.hidden; });
+  return Array.from(document.querySelectorAll(kind)).filter(function (it) { return it.checkVisibility(); });
 }
 function shown() { return there("[data-find]"); }
 // no window of a browser without a head is as narrow as a telephone, so the body is
 document.body.style.width = "360px";
 var all = shown().length, wide = document.body.scrollWidth > 360;
 heads[0].click(); heads[0].click();
-var last = document.querySelector("section:nth-of-type(3) tbody tr th").textContent;
+var last = document.querySelector("section:nth-of-type(4) tbody tr th").textContent;
 heads[1].click();
-var least = document.querySelector("section:nth-of-type(3) tbody tr td:nth-child(2)").dataset.key;
+var least = document.querySelector("section:nth-of-type(4) tbody tr td:nth-child(2)").dataset.key;
 find.value = "GLASSHOUSE"; find.dispatchEvent(new Event("input"));
 var found = shown().map(function (it) { return it.tagName; }).join();
 find.value = "no such text"; find.dispatchEvent(new Event("input"));

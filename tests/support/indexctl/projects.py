@@ -4,9 +4,12 @@ from __future__ import annotations
 import io
 import zipfile
 
+from support.indexctl.control import digest
 from support.indexctl.sample import MARKUP
 from support.packages import wheel_files, wheel_name
 
+# an id has at most 32 letters
+LONGEST_USER = "maximilianalexandervonhohenstein"
 TURNED = "\u202e"
 SUMMARY = f"Sends & receives {MARKUP}{TURNED} messages"
 REASON = f"loses <data>; nimm 2.0 \u2013 {MARKUP}"
@@ -35,4 +38,6 @@ def fill_with_projects(index):
     index.upload("fjord-queue", "fjord_queue-2.0.tar.gz", b"no archive, and nobody looks")
     index.request(do="yank", name="fjord-queue", release="2.1", reason=REASON)
     index.claim("early")
+    index.request(do="add_user", user=LONGEST_USER, office=False, token_sha256=digest(LONGEST_USER))
+    index.request(do="add_owner", name="early", user=LONGEST_USER)
     index.upload("early", wheel_name("early", "1.0b1"), b"no wheel")

@@ -41,13 +41,13 @@ class FakeIndex:
     glance."""
 
     def __init__(self, *replies: Reply, setting: Optional[Setting] = None, glances: Sequence[bytes] = ()) -> None:
-        self.setting, self.left, self.glances = setting or SETTING, list(replies), list(glances)
+        self.setting, self.left, self.seen = setting or SETTING, list(replies), list(glances)
         self.asked: List[Request] = []
         self.glanced: List[str] = []
 
-    def glance(self, path: str) -> Optional[bytes]:
-        self.glanced.append(path)
-        return self.glances.pop(0) if self.glances else None
+    def glances(self, paths: Sequence[str]) -> List[Optional[bytes]]:
+        self.glanced += paths
+        return [self.seen.pop(0) if self.seen else None for _ in paths]
 
     def ask(self, _what: str, request: Request) -> Reply:
         self.asked.append(request)

@@ -1,4 +1,4 @@
-"""A terminal of 60 columns, on which indexctl runs and a person types."""
+"""A terminal of 60 columns, or as many as a test wants, on which indexctl runs and a person types."""
 from __future__ import annotations
 
 import os
@@ -16,10 +16,11 @@ from support.indexctl.control import PATIENCE, Control
 COLUMNS, ESCAPE = 60, re.compile(r"\x1b\[[0-9;]*[mK]")
 
 
-def on_terminal(by: Control, *words: str, types: str = "", **setting: Optional[str]) -> Tuple[int, str]:
-    """The status of a run, and what it prints on a terminal of 60 columns. `types` is typed when it asks."""
+def on_terminal(by: Control, *words: str, types: str = "", columns: int = COLUMNS,
+                **setting: Optional[str]) -> Tuple[int, str]:
+    """The status of a run, and what it prints on a terminal of so many columns. `types` is typed when it asks."""
     lead, end = pty.openpty()
-    ioctl(end, termios.TIOCSWINSZ, struct.pack("HHHH", 24, COLUMNS, 0, 0))
+    ioctl(end, termios.TIOCSWINSZ, struct.pack("HHHH", 24, columns, 0, 0))
     process = by.start(*words, streams={"stdin": end, "stdout": end, "stderr": end},
                        **{"TERM": "xterm", "COLUMNS": None, "LINES": None, **setting})
     os.close(end)
@@ -36,7 +37,7 @@ def on_terminal(by: Control, *words: str, types: str = "", **setting: Optional[s
             types = ""
     os.close(lead)
     try:
-        return process.wait(timeout=10), seen.decode().replace("\r\n", "\n")
+        return process.wait(timeout=60), seen.decode().replace("\r\n", "\n")
     finally:
         process.kill()
 

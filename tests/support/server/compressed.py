@@ -87,7 +87,7 @@ class FailingIndex(InThread):
 
 
 class CountingFront(Front):
-    """It keeps a page for a minute, and counts what each of the two servers compressed. nginx.conf has gzip_vary, as
+    """It keeps a page for an hour, and counts what each of the two servers compressed. nginx.conf has gzip_vary, as
     many have it."""
 
     def __init__(self, folder: str, certificate: str, port: int):
@@ -96,7 +96,7 @@ class CountingFront(Front):
         self.put("index/server.d/ratios.conf", f"access_log {folder}/sent.log ratios;\n")
         place = f"listen 127.0.0.1:{self.compressing};\n    access_log "
         for path, old, new in (("conf.d/packages.conf", f"{place}off;", f"{place}{folder}/compressed.log ratios;"),
-                               ("index/kept-pages.conf", "404 406 1s;", "404 406 60s;")):
+                               ("index/kept-pages.conf", "404 406 1s;", "404 406 1h;")):
             with open(f"{folder}/{path}") as conf:
                 self.put(path, conf.read(), **{old: new})
 

@@ -51,6 +51,12 @@ def kept(name: str) -> str:
         return conf.read()
 
 
+def seconds_of_waits() -> float:
+    """How long nginx waits for an index that is away, before it says so."""
+    waits, units = re.findall(r"auth_delay (\d+)(m?s);", kept("packages.conf")), {"s": 1.0, "ms": 0.001}
+    return sum(int(number) * units[unit] for number, unit in waits)
+
+
 def has_ipv6() -> bool:
     """Whether this machine has a loopback of IPv6."""
     try:
@@ -101,6 +107,10 @@ class Nginx(Running):
         with open(f"{self.folder}/error.log", errors="replace") as log:
             return log.read()
 
+    def has_met_nobody(self, request: str) -> bool:
+        """Whether the index was away for this request, by its method and path."""
+        return any("Connection refused" in line and f'request: "{request} ' in line for line in self.log().splitlines())
+
     def errors(self) -> list[str]:
         """What nginx says of itself. That the index was away is an error, and that a page changed as it was read,
         critical."""
@@ -109,10 +119,10 @@ class Nginx(Running):
 
 class Front(Nginx, Asking):
     """nginx in front of the indexes at these ports of loopback, or at these addresses; with several, as shards.conf has
-    it. A plain one speaks no TLS."""
+    it. A plain one speaks no TLS. Pages are kept for so many seconds."""
 
     def __init__(self, folder: str, certificate: str, *behind: int | str, pypi: int | None = None,
-                 is_plain: bool = False):
+                 is_plain: bool = False, page_seconds: int = 1):
         super().__init__(folder)
         self.certificate, self.url = certificate, f"http{'' if is_plain else 's'}://127.0.0.1:{self.port}"
         self.trust = ssl.create_default_context(cafile=certificate)
@@ -126,9 +136,10 @@ class Front(Nginx, Asking):
             "/usr/local/bin/indexctl": f"{folder}/indexctl",
             "/etc/ssl/packages.example.pem": certificate, "/var/cache/nginx/": f"{folder}/cache/",
             # a machine that tries this may have less room
-            "/var/log/nginx/": f"{folder}/", "min_free=2g": "min_free=16m",
+            "/var/log/nginx/": f"{folder}/", "/run/index-full": f"{folder}/index-full", "min_free=2g": "min_free=16m",
             "/etc/ssl/packages.example.key": f"{os.path.dirname(certificate)}/key"})
-        self.put("index/kept-pages.conf", kept("kept-pages.conf"), **compressing)
+        self.put("index/kept-pages.conf", kept("kept-pages.conf"), **compressing,
+                 **({" 1s;": f" {page_seconds}s;"} if page_seconds != 1 else {}))
         ports = {f"127.0.0.1:{8080 + at}": it if isinstance(it, str) else f"127.0.0.1:{it}"
                  for at, it in enumerate(behind)}
         self.put("index/indexes.conf", kept("one-index.conf" if len(behind) == 1 else "shards.conf"), **ports)

@@ -2,6 +2,7 @@
 from __future__ import annotations
 
 import re
+import statistics
 import time
 from collections.abc import Iterator, Sequence
 from contextlib import ExitStack, contextmanager
@@ -55,15 +56,15 @@ class Behind:
             accepted(named.upload(name, f"{name}-1.0.tar.gz", name.encode()))
 
     def ask_others(self, seconds: float) -> tuple[set[int], float]:
-        """Asks for pages of the names on the other two hosts, none of which nginx keeps: the statuses, and the longest
-        that one took."""
-        statuses, longest, at, until = set(), 0.0, 0, time.monotonic() + seconds
+        """Asks for pages of the names on the other two hosts, none of which nginx keeps: the statuses, and how long one
+        took, of which as many took longer as took less: a busy machine may make any of them slow."""
+        statuses, took, until = set(), [], time.monotonic() + seconds
         while time.monotonic() < until:
-            begun, name = time.monotonic(), NAMES[1 + at % 2]
-            statuses.add(self.front.ask("GET", f"/simple/{name}/", Accept=f"text/html, x/{at}")[0])
-            longest, at = max(longest, time.monotonic() - begun), at + 1
+            begun, name = time.monotonic(), NAMES[1 + len(took) % 2]
+            statuses.add(self.front.ask("GET", f"/simple/{name}/", Accept=f"text/html, x/{len(took)}")[0])
+            took.append(time.monotonic() - begun)
             time.sleep(0.02)
-        return statuses, longest
+        return statuses, statistics.median(took)
 
 
 @contextmanager

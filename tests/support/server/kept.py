@@ -5,7 +5,7 @@ import http.client
 import random
 import threading
 import time
-from collections.abc import Iterator
+from collections.abc import Callable, Iterator
 from contextlib import contextmanager
 
 from support.ports import free_port
@@ -78,10 +78,10 @@ class Kept(Asking):
             pass
         self.listens.wait(timeout=60)
 
-    def ends_often(self, until: float, chance: random.Random) -> None:
+    def ends_often(self, goes_on: Callable[[], bool], chance: random.Random) -> None:
         """Ends the index about a second after each of its starts, and as a crash would each second time."""
         is_crash = False
-        while time.monotonic() < until:
+        while goes_on():
             self.listens.wait(timeout=60)
             time.sleep(chance.uniform(0.5, 1.5))
             self.index.process.kill() if is_crash else self.index.process.terminate()

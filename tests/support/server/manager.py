@@ -61,9 +61,34 @@ def reload(nginx: int) -> None:
     wait_for(lambda: not any(is_serving(pid) for pid in before))
 
 
+def reopen(nginx: int, old: str) -> None:
+    """Has nginx open its logs again, and waits until none of its processes writes into the old one."""
+    os.kill(nginx, signal.SIGUSR1)
+    assert wait_for(lambda: not any(has_open(pid, old) for pid in [nginx, *children(nginx)]))
+
+
+def children(pid: int) -> list[int]:
+    with open(f"/proc/{pid}/task/{pid}/children") as found:
+        return [int(it) for it in found.read().split()]
+
+
 def workers(nginx: int) -> list[int]:
-    with open(f"/proc/{nginx}/task/{nginx}/children") as children:
-        return [pid for pid in map(int, children.read().split()) if is_serving(pid)]
+    return [pid for pid in children(nginx) if is_serving(pid)]
+
+
+def has_open(pid: int, path: str) -> bool:
+    """Whether a process has this file open. One that has just ended has not."""
+    def is_it(number: str) -> bool:
+        try:
+            return os.path.samefile(f"/proc/{pid}/fd/{number}", path)
+        except FileNotFoundError:
+            # closed meanwhile, or gone from its folder
+            return False
+
+    try:
+        return any(map(is_it, os.listdir(f"/proc/{pid}/fd")))
+    except (FileNotFoundError, ProcessLookupError):
+        return False
 
 
 def is_serving(pid: int) -> bool:

@@ -43,7 +43,7 @@ class Host:
     def __init__(self, at: int):
         self.at, self.address = at, HOSTS[at]
         self.under: Sequence[str] = ()
-        words = ["unshare", "--net", "sh", "-c", "echo ready; exec sleep 600"]
+        words = ["unshare", "--net", "sh", "-c", "echo ready; exec sleep 3600"]
         self.holder = subprocess.Popen(words, stdin=subprocess.DEVNULL, stdout=subprocess.PIPE,
                                        stderr=subprocess.STDOUT, text=True)
 

@@ -37,7 +37,7 @@ mount --rbind /proc "$1/root/proc"
 mount --rbind /dev "$1/root/dev"
 mount -t tmpfs none "$1/root/run"
 echo ready
-exec sleep 600
+exec sleep 3600
 """
 
 
@@ -59,7 +59,7 @@ class Root:
         self.holder.wait()
         self.holder.stdout.close()
 
-    def run(self, *words: str, seconds: float = 120, **more: str) -> CompletedProcess:
+    def run(self, *words: str, seconds: float = 600, **more: str) -> CompletedProcess:
         inner = ["nsenter", f"--target={self.holder.pid}", "--mount", "--", "chroot", self.root]
         return run_command([*inner, *words], seconds, PATH=PATH, DEBIAN_FRONTEND="noninteractive", **more)
 
@@ -72,9 +72,8 @@ class Root:
 
 def make_package(program: str, folder: str, *more: str, **setting: str) -> CompletedProcess:
     """How tools/package ends on this program, which may be one that is not proved. Its last line is the package."""
-    os.makedirs(folder, exist_ok=True)
     words = [sys.executable, f"{TOP}/tools/package", "--program", program, "--out", folder, "--version", "1", *more]
-    return run_command(words, 200, SOURCE_DATE_EPOCH="4000000000", **setting)
+    return run_command(words, 500, SOURCE_DATE_EPOCH="4000000000", **setting)
 
 
 def make_newer(package: str, folder: str) -> str:
@@ -112,17 +111,25 @@ class Life:
         # the database has a disk of its own, and nginx has no log of changes yet
         root.sh("mkdir -p /var/lib/index && mount -t tmpfs -o mode=755,size=200m none /var/lib/index; "
                 f"rm -f {CHANGES}")
-        words = block("apt-get install ./package-index_").replace("./package-index_*_amd64.deb", self.first)
-        seen = {"apt": root.sh(words.replace("install", "install --yes --no-install-recommends"))}
+        # the newer one of two is installed
+        root.sh(f"mkdir /debs; cp {self.first} /debs/package-index_10_amd64.deb; touch /debs/package-index_9_amd64.deb")
+        words = block('apt-get install "./$(ls').replace("install", "install --yes --no-install-recommends")
+        seen = {"apt": root.sh(f"cd /debs; {words}")}
         seen["modes"] = root.sh("stat -c '%U %a' /var/lib/index /var/backups/index && stat -c %a /var/cache/nginx")
         seen["log"] = root.sh(f"stat -c '%U %G %a' {CHANGES}").stdout
-        made = block("office=$(openssl rand -hex 32); echo \"$office\"\nrunuser")
+        made = block("office=$(openssl rand -hex 32)\nrunuser")
         seen["init"] = root.sh(made + "printf %s $office > /office")
+        seen["init again"] = root.sh(made)
         with open(self.certificate) as kept, open(f"{os.path.dirname(self.certificate)}/key") as key:
             root.put("/etc/ssl/packages.example.pem", kept.read())
             root.put("/etc/ssl/packages.example.key", key.read())
         seen["nginx"] = root.sh("nginx -v && " + block("host=packages.example")
                                 + "nginx -T | grep 'server_name packages'")
+        # once more with no room where the file is made
+        root.sh("tar -C /etc/nginx -cf /conf.tar . && mount -t tmpfs -o size=1m none /etc/nginx && "
+                "tar -C /etc/nginx -xf /conf.tar; head -c 2m /dev/zero > /etc/nginx/zeros")
+        seen["full"] = root.sh(block("host=packages.example")
+                               + "cat /etc/nginx/conf.d/packages.conf; umount /etc/nginx")
         units = "/lib/systemd/system/index*"
         instances = f"$(ls {units} | grep @ | grep -v alarm | sed s/@/@8081/)"
         seen["verify"] = root.sh(f"systemd-analyze verify $(ls {units} | grep -v @) {instances}")
@@ -197,19 +204,17 @@ class Life:
 
     @functools.cached_property
     def several(self) -> dict:
-        """A database is shrunk, one with sums is not, and three indexes take the place of one."""
+        """A database is shrunk, and three indexes take the place of one."""
         assert self.moved
         root = self.root
         root.sh("runuser -u index -- sqlite3 /var/lib/index/index.db 'CREATE TABLE x (y)' 'INSERT INTO x VALUES "
                 "(zeroblob(1000000))' 'DROP TABLE x'")
-        shrinks = block("systemctl stop index-health.timer index.service\n")
-        seen = {"before": self.size(), "shrunk": root.sh("set -e\n" + shrinks), "after": self.size()}
-        seen["held"] = self.held()
-        digest = "sha256sum /var/lib/index/index.db"
-        seen["sealed"] = root.sh("set -e; index-reseal /var/lib/index/index.db /sealed.db\ninstall -o index -g index "
-                                 f"-m 600 /sealed.db /var/lib/index/index.db; {digest}")
-        seen["not shrunk"] = root.sh(f"set -e\n{shrinks}{digest}")
-        seen["three"] = root.sh(block("office=$(openssl rand -hex 32); echo \"$office\"\nfor"))
+        seen = {"before": self.size()}
+        seen["shrunk"] = root.sh("index-reseal /var/lib/index/index.db /sealed.db && install -o index -g index -m 600 "
+                                 "/sealed.db /var/lib/index/index.db")
+        seen["after"], seen["held"] = self.size(), self.held()
+        seen["three"] = root.sh(block("office=$(openssl rand -hex 32)\nfor"))
+        seen["three again"] = root.sh(block("office=$(openssl rand -hex 32)\nfor"))
         seen["modes"] = root.sh("stat -c '%U %a' /var/lib/index/808[012] /var/lib/index/808[012]/index.db").stdout
         seen["asked"] = root.sh("cat /systemctl.log").stdout
         return seen

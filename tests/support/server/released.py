@@ -46,9 +46,12 @@ int main(int count, char **words) {
 """
 BUILD = r"""#!/bin/sh
 cd "$(dirname "$0")/.." && mkdir -p crates/index/out
-version=$(sed -n 's/^const VERSION: &str = \(".*"\);$/\1/p' crates/index_words/src/command.rt)
+version=$(sed -n 's/^const VERSION: &str = \(".*"\);$/\1/p' crates/index_args/src/command.rt)
 cc -DVERSION="$version" -o crates/index/out/index tools/program.c
 """
+
+# in the place of the kit's command, which proves and builds as the gate does
+RT = BUILD.replace('cd "$(dirname "$0")/.."', 'test "$*" = ci && test -z "$RT_FAILS" && touch "$RT_CALLED"')
 
 
 class Repository:
@@ -88,7 +91,7 @@ class Repository:
 
     def release(self, out: str, *words: str, **more: str) -> CompletedProcess:
         command = [sys.executable, f"{self.top}/tools/release", "--out", out]
-        return run_command([*command, *words], 200, **more)
+        return run_command([*command, *words], 500, **more)
 
 
 class Releases:
@@ -115,9 +118,21 @@ class Releases:
         return self.repository.release(f"{self.folder}/again", VERSION, TAG, TZ="Asia/Tokyo")
 
     @functools.cached_property
+    def checked(self) -> CompletedProcess:
+        """The lines of tools/README that check a release, in a clone with its tag, where the kit is not to be found."""
+        assert self.again
+        clone, page = f"{self.folder}/clone", written(f"{TOP}/tools/README.md")
+        self.repository.git("clone", "--quiet", self.repository.top, clone)
+        lines, = re.findall(r"^```sh\n(.*?)^```$", page, re.M | re.S)
+        lines = re.sub(r"\d+\.\d+\.\d+", VERSION, lines)
+        lines = lines.replace("FOLDER", self.out).replace("../again", f"{self.folder}/checked")
+        words = ["sh", "-ec", f'cd "$1"\n{lines}', "sh", clone]
+        return run_command(words, 500, PATH="/usr/sbin:/usr/bin:/sbin:/bin")
+
+    @functools.cached_property
     def refused(self) -> dict:
         """What is no release, by what is wrong with it."""
-        assert self.again
+        assert self.checked
         repository, seen = self.repository, {}
         seen["a tag that is there"] = repository.release(self.none, VERSION)
         repository.git("tag", "--delete", TAG)
@@ -139,6 +154,17 @@ class Releases:
         assert self.refused
         program = f"{self.out}/index-{VERSION}-amd64"
         return self.repository.release(f"{self.folder}/built", VERSION, self.commit, "--program", program)
+
+    @functools.cached_property
+    def of_the_gate(self) -> CompletedProcess:
+        """A release of a program that the gate's command proves, which leaves a mark."""
+        assert self.of_a_program
+        write_below(self.folder, "bin/rt", RT)
+        os.chmod(f"{self.folder}/bin/rt", 0o755)
+        setting = {"PATH": f"{self.folder}/bin:{os.environ['PATH']}", "RT_CALLED": f"{self.folder}/called"}
+        self.refused["a proof that fails"] = self.repository.release(self.none, VERSION, self.commit, "--gate",
+                                                                     RT_FAILS="yes", **setting)
+        return self.repository.release(f"{self.folder}/gate", VERSION, self.commit, "--gate", **setting)
 
     def sums(self, name: str) -> str:
         return written(f"{self.folder}/{name}/SHA256SUMS")

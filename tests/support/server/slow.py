@@ -1,6 +1,7 @@
 """An index that takes a moment for each page, and many who ask for one at once."""
 from __future__ import annotations
 
+import http.client
 import http.server
 import threading
 import time
@@ -9,7 +10,8 @@ from support.proxy import InThread
 from support.server.front import Front
 from support.serving import JSON_PAGE
 
-AT_ONCE = 10
+# so many ask within these seconds, which are well below those that the index takes
+AT_ONCE, TOGETHER, TAKES = 10, 0.01, 0.03
 
 
 class SlowIndex(InThread):
@@ -22,7 +24,7 @@ class SlowIndex(InThread):
             def do_GET(self) -> None:
                 with counting:
                     slow.asked += 1
-                time.sleep(0.03)
+                time.sleep(TAKES)
                 self.send_response_only(200)
                 self.send_header("Content-Type", JSON_PAGE)
                 self.send_header("Content-Length", "2")
@@ -36,20 +38,21 @@ class SlowIndex(InThread):
         self.port = self.server.server_port
 
 
-def of_herd(front: Front, slow: SlowIndex, path: str) -> tuple[float, int]:
-    """The longest that one of ten waited for this page, and how often the index was asked for it."""
-    took, ready = [], threading.Barrier(AT_ONCE)
-
-    def ask() -> None:
-        ready.wait()
-        begun = time.monotonic()
-        if front.ask("GET", path, Accept=JSON_PAGE)[0] == 200:
-            took.append(time.monotonic() - begun)
-
-    before, asking = slow.asked, [threading.Thread(target=ask) for _ in range(AT_ONCE)]
-    for it in asking:
-        it.start()
-    for it in asking:
-        it.join()
-    # one that had no reply waited for ever
-    return max(took) if len(took) == AT_ONCE else float("inf"), slow.asked - before
+def of_herd(front: Front, slow: SlowIndex, path: str) -> tuple[float, int] | None:
+    """The longest that one of ten waited for this page, and how often the index was asked for it; nothing if a busy
+    machine did not send them together, as the last could find the page there then."""
+    herd = [http.client.HTTPSConnection("127.0.0.1", front.port, timeout=60, context=front.trust)
+            for _ in range(AT_ONCE)]
+    for it in herd:
+        it.connect()
+    before, begun = slow.asked, time.monotonic()
+    for it in herd:
+        it.request("GET", path, headers={"Accept": JSON_PAGE})
+    sent = time.monotonic() - begun
+    replies = [it.getresponse() for it in herd]
+    bodies = [it.read() for it in replies]
+    longest = time.monotonic() - begun
+    for it in herd:
+        it.close()
+    assert [it.status for it in replies] == [200] * AT_ONCE and set(bodies) == {b"{}"}, bodies
+    return (longest, slow.asked - before) if sent < TOGETHER else None

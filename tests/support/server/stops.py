@@ -4,12 +4,14 @@ from __future__ import annotations
 
 import os
 import shutil
+import signal
 import subprocess
 import sys
-from collections.abc import Iterator
+from collections.abc import Iterator, Mapping, Sequence
 from contextlib import contextmanager
 from dataclasses import dataclass
 
+import pytest
 from support.places import BIN
 from support.running import kill_after, run_command
 from support.server.kept import Kept
@@ -17,18 +19,31 @@ from support.server.manager import Manager
 from support.server.restores import names_of
 from support.serving import make_index
 
+# Ctrl-C, systemd, a terminal that is closed, and a kill, after which nothing can be put in order
+SIGNALS = [pytest.param(signal.SIGINT, marks=pytest.mark.slow), signal.SIGTERM,
+           pytest.param(signal.SIGHUP, marks=pytest.mark.slow), signal.SIGKILL]
 # the script that follows, which gets the signal of this number before its step of this number, from 0 on
 STOPPED = """
 import os, runpy, sys
 left, number = int(sys.argv.pop(1)), int(sys.argv.pop(1))
-CALLS = {"os.mkdir", "os.link", "os.remove", "os.rename", "os.rmdir", "os.chmod", "os.chown", "subprocess.Popen"}
-def seen(event, words):
+CALLS = {"os.mkdir", "os.link", "os.remove", "os.rename", "os.rmdir", "os.chmod", "os.chown", "subprocess.Popen",
+         "http.client.connect", "http.client.send"}
+def step():
     global left
-    if event in CALLS or event == "open" and "w" in (words[1] or ""):
-        left -= 1
-        if left == -1:
-            os.kill(os.getpid(), number)
+    left -= 1
+    if left == -1:
+        os.kill(os.getpid(), number)
+def seen(event, words):
+    if event in CALLS or event == "open" and words[2] & (os.O_WRONLY | os.O_RDWR):
+        step()
 sys.addaudithook(seen)
+def counted(call):
+    def counting(*words):
+        step()
+        return call(*words)
+    return counting
+for name in ("fsync", "pwrite", "ftruncate"):
+    setattr(os, name, counted(getattr(os, name)))
 sys.argv.pop(0)
 try:
     runpy.run_path(sys.argv[0], run_name="__main__")
@@ -36,6 +51,15 @@ finally:
     left >= 0 and print("it has no such step", file=sys.stderr)
 """
 NOT_REACHED = "it has no such step"
+# stands for `cp`: the copy of this number, from 0 on, has half of its bytes when its caller gets a signal
+HALF = """#!/bin/sh
+echo >> "$COPIES"
+[ "$(wc -l < "$COPIES")" -gt "$HALVED" ] || exec /bin/cp "$@"
+for it; do from=$to; to=$it; done
+head -c $(($(stat -c %s "$from") / 2)) "$from" > "$to"
+kill "-$SIGNAL" "$PPID"
+exec sleep 5
+"""
 # the same, where no file can be moved to this name
 FAILING = """
 import errno, os, runpy, sys
@@ -51,6 +75,26 @@ runpy.run_path(sys.argv[0], run_name="__main__")
 KEPT = "f/0a/" + "1" * 32
 
 
+def ended_before(step: int, number: int, words: Sequence[str], **setting: str) -> subprocess.CompletedProcess:
+    """The end of a script with these words that got this signal before its step of this number."""
+    return run_command([sys.executable, "-c", STOPPED, str(step), str(int(number)), *words], 300, **setting)
+
+
+def is_reached(ended: subprocess.CompletedProcess) -> bool:
+    """Whether it had such a step."""
+    return NOT_REACHED not in ended.stdout
+
+
+def halved(folder: str, copy: int, number: int) -> dict[str, str]:
+    """A setting in which the copy of this number gets no further than its middle, and then this signal comes."""
+    os.makedirs(f"{folder}/half")
+    with open(f"{folder}/half/cp", "w") as made:
+        made.write(HALF)
+    os.chmod(made.name, 0o755)
+    return {"PATH": f"{folder}/half:{os.environ['PATH']}", "COPIES": f"{folder}/half/count", "HALVED": str(copy),
+            "SIGNAL": str(int(number))}
+
+
 @dataclass
 class Stopped:
     """An index in a folder that serves the name `later`, and a copy that has the name `kept`."""
@@ -63,15 +107,18 @@ class Stopped:
     def copy(self) -> str:
         return f"{self.folder}/copies/index-20260101T000000Z.db"
 
-    def run(self, *front: str, copy: str | None = None) -> subprocess.CompletedProcess:
-        """The end of a restore of the copy behind these words."""
+    def run(self, *front: str, copy: str | None = None, half: Mapping[str, str] | None = None
+            ) -> subprocess.CompletedProcess:
+        """The end of a restore of the copy behind these words, with `cp` as `halved` has it if that is given."""
         words = [*front, f"{BIN}/index-restore", copy or self.copy, "--db", self.index.path, "--cache",
                  f"{self.folder}/cache", "--changes", f"{self.folder}/changes.log",
                  "--url", f"http://127.0.0.1:{self.index.port}", "--with-pypi", f"{self.folder}/with-pypi.conf"]
-        return run_command(words, PATH=f"{self.manager.folder}:{os.environ['PATH']}", INDEX=self.program)
+        setting = {"PATH": os.environ["PATH"], **(half or {})}
+        setting["PATH"] = f"{self.manager.folder}:{setting['PATH']}"
+        return run_command(words, 300, INDEX=self.program, **setting)
 
     def ended_before(self, step: int, number: int) -> subprocess.CompletedProcess:
-        return self.run(sys.executable, "-c", STOPPED, str(step), str(number))
+        return self.run(sys.executable, "-c", STOPPED, str(step), str(int(number)))
 
     def names(self, db: str | None = None) -> list | None:
         return names_of(db or self.index.path, self.folder)
@@ -106,13 +153,13 @@ def serving(program: str, folder: str) -> Iterator[Stopped]:
 
 def each_step(program: str, made: str, folder: str, number: int) -> Iterator[tuple]:
     """Each step of a restore, with an index of its own and how the restore ended that got the signal there."""
-    step, is_reached = 0, True
-    while is_reached:
+    step, has_more = 0, True
+    while has_more:
         at = shutil.copytree(made, f"{folder}/{step}")
         with serving(program, at) as restores:
             ended = restores.ended_before(step, number)
-            is_reached = NOT_REACHED not in ended.stdout
-            if is_reached:
+            has_more = is_reached(ended)
+            if has_more:
                 yield step, restores, ended
         shutil.rmtree(at)
         step += 1

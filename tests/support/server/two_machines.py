@@ -35,6 +35,8 @@ case $1 in
     sh-dev) [ "$2" = index ] || { echo "'$2' not defined in your config (for this host)."; exit 1; }
             echo /dev/drbd0 ;;
     dump) cat dumped ;;
+    dstate) cat disks ;;
+    role) echo "$(cat role)/Secondary" ;;
 esac
 """
 MOUNT = TURN + """
@@ -93,7 +95,7 @@ class Machine:
         self.at = f"{folder}/commands"
         self.path = stand_ins(self.at, drbdadm=DRBDADM, drbdsetup=TURN + "cat shown", mount=MOUNT, umount=UMOUNT,
                               systemctl=SYSTEMCTL)
-        self.put(shown=SHOWN, dumped=DUMPED, role="Secondary\n", mounts="")
+        self.put(shown=SHOWN, dumped=DUMPED, role="Secondary\n", mounts="", disks="UpToDate/UpToDate\n")
 
     def put(self, **texts: str) -> None:
         for name, text in texts.items():
@@ -105,15 +107,15 @@ class Machine:
             if os.path.exists(f"{self.at}/{name}"):
                 os.remove(f"{self.at}/{name}")
 
-    def run(self, name: str, *words: str) -> subprocess.CompletedProcess:
+    def run(self, name: str, *words: str, **setting: str) -> subprocess.CompletedProcess:
         """The end of a command that was given these words; `called` has what it called."""
         self.remove("called")
         return run_command([sys.executable, "-c", RUN, f"{SERVER}/lib", f"{self.at}/mounts", f"{BIN}/{name}",
-                            *words], PATH=self.path)
+                            *words], PATH=self.path, **setting)
 
     def called(self) -> list[str]:
         """What was called, but what only reads."""
-        reads = "drbdsetup show", "drbdadm sh-dev", "drbdadm dump"
+        reads = "drbdsetup show", "drbdadm sh-dev", "drbdadm dump", "drbdadm dstate", "drbdadm role"
         return [line for line in called(self.at).splitlines() if not line.startswith(reads)]
 
     def state(self) -> tuple[str, str, bool]:

@@ -5,7 +5,7 @@ import time
 from collections.abc import Callable
 
 
-def wait_for(is_so: Callable[[], object], seconds: float = 30) -> bool:
+def wait_for(is_so: Callable[[], object], seconds: float = 60) -> bool:
     """Whether it was so before these seconds were over."""
     until = time.monotonic() + seconds
     while not is_so():

@@ -1,16 +1,20 @@
-"""What watches the index: runs of index-health and index-metrics, and an index that fails."""
+"""What watches the index: runs of index-health and index-metrics, an index that fails, and one that goes."""
 from __future__ import annotations
 
 import http.server
 import re
+import socket
 import subprocess
 import sys
+import threading
 
 from support.places import BIN, SERVER
 from support.proxy import InThread
 from support.running import run_command
 
 HEALTH = [sys.executable, f"{BIN}/index-health"]
+# nothing is made or removed there
+NOWHERE = "/nonexistent/full"
 METRICS = [sys.executable, f"{BIN}/index-metrics"]
 
 
@@ -31,18 +35,48 @@ class Failed(InThread):
         self.url = f"http://127.0.0.1:{self.server.server_port}"
 
 
+class Closes(threading.Thread):
+    """A machine that goes as soon as it has a request. `seen` are the first words of those."""
+
+    def __init__(self) -> None:
+        super().__init__(daemon=True)
+        self.listener, self.seen = socket.create_server(("127.0.0.1", 0)), []
+        self.port = self.listener.getsockname()[1]
+
+    def run(self) -> None:
+        while True:
+            try:
+                peer, _ = self.listener.accept()
+            except OSError:
+                return
+            with peer:
+                self.seen.append(peer.recv(1 << 16).split(b" ")[0])
+
+    def __enter__(self) -> Closes:
+        self.start()
+        return self
+
+    def __exit__(self, *_: object) -> None:
+        # one that waits in accept is not woken by close alone
+        self.listener.shutdown(socket.SHUT_RDWR)
+        self.join()
+        self.listener.close()
+
+
 def unit(name: str) -> str:
     """The text of a unit of server/systemd."""
     with open(f"{SERVER}/systemd/{name}") as kept:
         return kept.read()
 
 
-def look_at_health(path: str, *words: str, under: tuple = ()) -> subprocess.CompletedProcess:
-    """A run of index-health, and what index-health.service does after it: some systemctl of this PATH."""
-    after = re.search(r"^ExecStopPost=\+/bin/sh -c '(.*)'$", unit("index-health.service"), re.M)
+def look_at_health(path: str, *words: str, under: tuple = (), full: str = NOWHERE) -> subprocess.CompletedProcess:
+    """A run of index-health, and what index-health.service does after it: some systemctl of this PATH, and the file
+    `full` as long as there is little room."""
+    after = re.search(r"^ExecStopPost=\+/bin/sh -c '(.*?)'$", unit("index-health.service"), re.M | re.S)
     ended = run_command([*under, *HEALTH, *words])
     if after:
-        run_command(["sh", "-c", after[1].replace("$$", "$")], PATH=path, EXIT_STATUS=str(ended.returncode))
+        script = after[1].replace("$$", "$").replace("\\\n", " ")
+        run_command(["sh", "-c", script.replace("/run/index-full", full)], PATH=path, EXIT_STATUS=str(ended.returncode))
     return ended
 
 

@@ -14,10 +14,10 @@ from dataclasses import dataclass, field
 from support.ports import free_port
 
 # without hardware's help, so that it runs anywhere
-MACHINE = ["qemu-system-x86_64", "-accel", "tcg", "-cpu", "Nehalem", "-M", "q35", "-m", "320", "-smp", "1",
+MACHINE = ["qemu-system-x86_64", "-accel", "tcg", "-cpu", "Nehalem", "-M", "q35", "-smp", "1",
            "-nodefaults", "-no-user-config", "-no-reboot", "-display", "none"]
 KERNEL_WORDS = ("console=ttyS0 quiet panic=-1 edd=off nokaslr tsc=reliable mitigations=off net.ifnames=0 "
-                "random.trust_cpu=1 no_timer_check")
+                "random.trust_cpu=1 no_timer_check systemd.default_timeout_start_sec=900")
 DISK_MIB = 160
 
 
@@ -28,13 +28,15 @@ class NoAnswer(Exception):
 @dataclass
 class Guest:
     """`cable` are the ports of the two ends of the cable, its own first. `switch` is the command for a connection to
-    the power switch."""
+    the power switch. `system` is a disk with what it boots besides, of which it gets a copy, and `memory` is in MiB."""
     name: str
     at: int
     folder: str
     boots: tuple[str, str]
     cable: tuple[int, int]
     switch: str
+    system: str = ""
+    memory: int = 320
     process: subprocess.Popen | None = None
     lock: threading.Lock = field(default_factory=threading.Lock)
 
@@ -44,12 +46,14 @@ class Guest:
         for name, size in (("system", 1), ("disk", DISK_MIB)):
             with open(f"{self.folder}/{name}", "wb") as disk:
                 disk.truncate(size << 20)
+        if self.system:
+            subprocess.run(["cp", "--sparse=always", self.system, f"{self.folder}/system"], check=True)
 
     def words(self) -> list[str]:
         kernel, initrd = self.boots
-        words = [*MACHINE, "-serial", f"file:{self.folder}/console", "-qmp",
+        words = [*MACHINE, "-m", f"{self.memory}", "-serial", f"file:{self.folder}/console", "-qmp",
                  f"unix:{self.folder}/qmp,server=on,wait=off", "-kernel", kernel, "-initrd", initrd,
-                 "-append", f"{KERNEL_WORDS} guest={self.name} at={self.at}"]
+                 "-append", f"{KERNEL_WORDS} guest={self.name} at={self.at} systemd.hostname={self.name}"]
         for name in ("system", "disk"):
             words += ["-drive", f"file={self.folder}/{name},if=none,id={name},format=raw,cache=none,aio=threads",
                       "-device", f"virtio-blk-pci,drive={name},romfile="]
@@ -68,13 +72,15 @@ class Guest:
         with open(f"{self.folder}/qemu", "ab") as said:
             self.process = subprocess.Popen(self.words(), stdin=subprocess.DEVNULL, stdout=said, stderr=said)
 
-    def booted(self, patience: float = 240) -> float:
+    def booted(self, patience: float = 900) -> float:
         """Waits until it takes commands, and returns the seconds that took."""
-        begun = time.monotonic()
+        begun, wait = time.monotonic(), 2.0
         while time.monotonic() < begun + patience and self.process and self.process.poll() is None:
             with suppress(OSError, http.client.HTTPException, ValueError):
-                if self.sh("hostname", patience=2)[1].strip() == self.name:
+                if self.sh("hostname", patience=wait)[1].strip() == self.name:
                     return time.monotonic() - begun
+            # what is asked before it listens gets no answer, and on a busy machine an answer takes longer
+            wait += 1
             time.sleep(0.1)
         raise NoAnswer(f"{self.name} does not boot: {self.said('qemu')} {self.said('console')}")
 
@@ -82,7 +88,7 @@ class Guest:
         with open(f"{self.folder}/{name}", errors="replace") as kept:
             return kept.read()[-1500:]
 
-    def sh(self, script: str, patience: float = 180) -> tuple[int, str]:
+    def sh(self, script: str, patience: float = 600) -> tuple[int, str]:
         """The status of a script of commands there, and what it printed."""
         connection = http.client.HTTPConnection("127.0.0.1", self.agent, timeout=patience)
         try:
@@ -93,7 +99,7 @@ class Guest:
         printed, _, status = text.rpartition("=")
         return int(status), printed
 
-    def must(self, script: str, patience: float = 180) -> str:
+    def must(self, script: str, patience: float = 600) -> str:
         status, printed = self.sh(script, patience)
         if status:
             raise NoAnswer(f"{self.name}: {script!r} ended with {status}: {printed}")

@@ -147,14 +147,15 @@ def add_package(archive: Archive, program: str) -> None:
     archive.file(f"{SERVER}/systemd/other-host.conf", "/usr/share/package-index/other-host.conf")
 
 
-def make_image(folder: str, program: str) -> tuple[str, str]:
-    """Makes the initial file system in a folder, and returns the paths of the kernel and of it."""
+def make_image(folder: str, program: str, besides: Iterable[str] = (), modules: Iterable[str] = ()) -> tuple[str, str]:
+    """Makes the initial file system in a folder, with other commands and modules if they are named, and returns the
+    paths of the kernel and of it."""
     root, archive = kernel_root(), Archive()
     for name in ("proc", "sys", "dev", "tmp", "run", "var/lib/drbd", "var/lock", "var/run/drbd", "var/lib/index",
                  "var/backups/index", "etc/systemd/system", "mnt"):
         archive.folder(name)
     commands = {name: command(name) for name in COMMANDS}
-    programs = [*commands.values(), *(path for path in OTHERS if os.path.exists(path))]
+    programs = [*commands.values(), *besides, *(path for path in OTHERS if os.path.exists(path))]
     for path in (*programs, *sorted(libraries([*programs, program]))):
         archive.file(path)
     archive.link("/usr/sbin/mkfs.ext4", "mke2fs")
@@ -165,10 +166,10 @@ def make_image(folder: str, program: str) -> tuple[str, str]:
     archive.file(f"{HERE}/guest-init", "/init")
     for name in ("systemctl", "apt-get", "runuser", "openssl"):
         archive.file(f"{HERE}/{name}", f"/usr/bin/{name}")
-    modules = ordered(root, MODULES)
-    for path in modules:
+    paths = ordered(root, [*MODULES, *modules])
+    for path in paths:
         archive.file(path, f"/modules/{os.path.basename(path)}")
-    archive.text("/modules/order", "".join(f"{os.path.basename(path)}\n" for path in modules))
+    archive.text("/modules/order", "".join(f"{os.path.basename(path)}\n" for path in paths))
     archive.file("/etc/mke2fs.conf")
     archive.text("/etc/drbd.conf", 'include "drbd.d/global_common.conf";\ninclude "drbd.d/*.res";\n')
     archive.text("/etc/drbd.d/global_common.conf", "global { usage-count no; }\n")

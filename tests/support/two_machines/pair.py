@@ -1,11 +1,13 @@
 """Two guests with a cable between them and a power switch for each."""
 from __future__ import annotations
 
+import re
 import time
 from collections.abc import Iterator
 from contextlib import contextmanager
 
 from support.ports import free_port
+from support.server.waits import wait_for
 from support.two_machines.guests import Guest, NoAnswer
 from support.two_machines.image import command
 from support.two_machines.switch import Switch
@@ -19,17 +21,36 @@ END
 """
 
 
+def state_of(guest: Guest) -> str:
+    """How a guest is connected, both roles and both disks, by the kernel. drbdadm asks it too, but prints first that it
+    took more than five seconds if the guest is busy."""
+    found = re.search(r" cs:(\S+)(?: ro:(\S+) ds:(\S+))?", guest.must("cat /proc/drbd"))
+    return " ".join(part for part in found.groups() if part) if found else "no resource"
+
+
+def out_of_step(guest: Guest) -> int:
+    """How many KiB of the two disks differ, by the kernel of a guest."""
+    found = re.search(r" oos:(\d+)", guest.must("cat /proc/drbd"))
+    return int(found[1]) if found else 0
+
+
 class Pair:
-    def __init__(self, folder: str, boots: tuple[str, str], switch: Switch) -> None:
+    def __init__(self, folder: str, boots: tuple[str, str], switch: Switch, system: str = "",
+                 memory: int = 320) -> None:
         ends = free_port(), free_port()
         dials = f"{command('busybox')} nc 127.0.0.1 {switch.server.server_port}"
         self.switch = switch
-        self.guests = [Guest(name, at + 1, f"{folder}/{name}", boots, (ends[at], ends[1 - at]), dials)
+        self.guests = [Guest(name, at + 1, f"{folder}/{name}", boots, (ends[at], ends[1 - at]), dials, system, memory)
                        for at, name in enumerate(NAMES)]
         switch.guests.update({guest.name: guest for guest in self.guests})
 
     def other(self, guest: Guest) -> Guest:
         return self.guests[2 - guest.at]
+
+    def pull_out(self, guest: Guest) -> None:
+        """Pulls the cable out, and nobody's power can be cut by the switch meanwhile."""
+        self.switch.works = False
+        guest.put_cable(False)
 
     def boot(self) -> float:
         for guest in self.guests:
@@ -37,11 +58,13 @@ class Pair:
         return max(guest.booted() for guest in self.guests)
 
     def states(self) -> list[str]:
-        """Of each guest how it is connected, its role and its disk, by DRBD."""
-        asked = "drbdadm cstate index; drbdadm role index; drbdadm dstate index"
-        return [" ".join(guest.sh(asked)[1].split()) if guest.process else "off" for guest in self.guests]
+        return [state_of(guest) if guest.process else "off" for guest in self.guests]
 
-    def wait_until_connected(self, patience: float = 120) -> None:
+    def sees_no_other(self, guest: Guest, patience: float = 1800) -> bool:
+        """Waits until DRBD of this guest knows that the other one is silent."""
+        return wait_for(lambda: "/Unknown " in state_of(guest), patience)
+
+    def wait_until_connected(self, patience: float = 1800) -> None:
         until = time.monotonic() + patience
         while time.monotonic() < until:
             if all(state.startswith("Connected") for state in self.states()):
@@ -49,7 +72,7 @@ class Pair:
             time.sleep(0.3)
         raise NoAnswer(f"the guests are not connected: {self.states()}")
 
-    def wait_until_in_step(self, patience: float = 240) -> float:
+    def wait_until_in_step(self, patience: float = 3600) -> float:
         """Waits until both have the same disk, and returns the seconds that took."""
         begun = time.monotonic()
         while time.monotonic() < begun + patience:
@@ -61,9 +84,9 @@ class Pair:
 
 
 @contextmanager
-def two_guests(folder: str, boots: tuple[str, str]) -> Iterator[Pair]:
+def two_guests(folder: str, boots: tuple[str, str], system: str = "", memory: int = 320) -> Iterator[Pair]:
     with Switch() as switch:
-        pair = Pair(folder, boots, switch)
+        pair = Pair(folder, boots, switch, system, memory)
         try:
             yield pair
         finally:

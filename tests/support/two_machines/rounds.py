@@ -10,10 +10,14 @@ from statistics import median
 from support.two_machines.guests import Guest
 from support.two_machines.page import block
 from support.two_machines.pair import Pair
-from support.two_machines.set_up import SAID, TAKE, bring_back, take
+from support.two_machines.set_up import SAID, START, TAKE, bring_back, take
 from support.two_machines.uploads import Served, Uploader, fetched, log_is_whole, wrong_in
 
 LATEST = 6.0
+# how often the cable goes just before the power does
+WITH_CABLE = 0.3
+# in seconds, between uploads: a database that grows faster makes each round longer than the one before
+PAUSE = 0.1
 
 
 @dataclass
@@ -33,14 +37,18 @@ def cut_again_and_again(pair: Pair, index: Served, folder: str, program: str, co
                         chance: random.Random) -> Rounds:
     done = Rounds()
     with ExitStack() as running:
-        uploaders = [running.enter_context(Uploader(index, project, random.Random(chance.random())))
+        uploaders = [running.enter_context(Uploader(index, project, random.Random(chance.random()), PAUSE))
                      for project in ("frob", "ham")]
         for number in range(count):
             moment = chance.uniform(1, LATEST)
             time.sleep(moment)
             active = index.guest
             other, cut = pair.other(active), time.monotonic()
+            if chance.random() < WITH_CABLE:
+                pair.pull_out(active)
+                time.sleep(chance.uniform(0, 1))
             active.cut()
+            pair.switch.works = True
             if number == count - 1:
                 say_that_it_is_off(pair, other, done)
             take(other)
@@ -63,10 +71,12 @@ def cut_again_and_again(pair: Pair, index: Served, folder: str, program: str, co
 def say_that_it_is_off(pair: Pair, guest: Guest, done: Rounds) -> None:
     """The power switch is broken too: a machine takes over once a person says that the other one is off."""
     pair.switch.works = False
+    # before that DRBD refuses for another reason
+    pair.sees_no_other(guest)
     status, said = guest.sh(TAKE)
     if status != 1 or "Refusing to be Primary" not in said:
         done.wrong.append(("it took over by itself", status, said))
-    status, said = guest.sh(block(SAID))
+    status, said = guest.sh(block(SAID), START)
     if status or guest.sh("ls /run/index-peer-is-off")[0] == 0:
         done.wrong.append(("it did not take over", status, said))
     pair.switch.works = True

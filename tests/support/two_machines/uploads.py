@@ -23,10 +23,10 @@ class Served(Asking):
         self.guest = guest
 
     def ask(self, method: str, path: str, body=None, **headers) -> tuple:
-        return exchange(http.client.HTTPConnection("127.0.0.1", self.guest.port, timeout=20), method, path, body,
+        return exchange(http.client.HTTPConnection("127.0.0.1", self.guest.port, timeout=60), method, path, body,
                         headers)
 
-    def answers(self, patience: float = 240) -> bool:
+    def answers(self, patience: float = 1800) -> bool:
         """Waits until it answers."""
         until = time.monotonic() + patience
         while time.monotonic() < until:
@@ -39,11 +39,12 @@ class Served(Asking):
 
 class Uploader(threading.Thread):
     """Uploads file after file of a project as long as a block runs. What was not acknowledged is sent again, with the
-    same bytes. `files` has the digests of what was, and `longest` the seconds that one took."""
+    same bytes. It waits for `pause` seconds after each. `files` has the digests of what was, and `longest` the seconds
+    that one took."""
 
-    def __init__(self, index: Served, project: str, chance: random.Random) -> None:
+    def __init__(self, index: Served, project: str, chance: random.Random, pause: float = 0) -> None:
         super().__init__(daemon=True)
-        self.index, self.project, self.chance = index, project, chance
+        self.index, self.project, self.chance, self.pause = index, project, chance, pause
         self.files: dict[str, bytes] = {}
         self.longest, self.is_over = 0.0, threading.Event()
 
@@ -69,6 +70,7 @@ class Uploader(threading.Thread):
             self.longest = max(self.longest, time.monotonic() - begun)
             self.files[file] = hashlib.sha256(body).digest()
             number, body = number + 1, b""
+            self.is_over.wait(self.pause)
 
     def grown(self, seconds: float) -> int:
         """How many uploads are acknowledged within so many seconds."""
@@ -76,7 +78,7 @@ class Uploader(threading.Thread):
         time.sleep(seconds)
         return len(self.files) - before
 
-    def goes_on(self, patience: float = 120) -> bool:
+    def goes_on(self, patience: float = 1800) -> bool:
         """Waits until one more upload is acknowledged."""
         before, until = len(self.files), time.monotonic() + patience
         while len(self.files) == before and time.monotonic() < until:
@@ -97,10 +99,10 @@ def fetched(guest: Guest, folder: str) -> str:
 def wrong_in(path: str, files: dict[str, bytes], program: str) -> list[object]:
     """What is wrong with a database that has to have these files."""
     found: list[object] = []
-    checked = run(program, "check", "--db", path)
+    checked = run(program, "check", "--db", path, patience=600)
     if (checked.returncode, checked.stdout) != (0, b"0\n"):
         found.append(checked)
-    verified = run_command([f"{BIN}/index-verify", path], 300, INDEX=program)
+    verified = run_command([f"{BIN}/index-verify", path], 600, INDEX=program)
     if verified.returncode:
         found.append(verified)
     with closing(sqlite3.connect(f"file:{path}?immutable=1", uri=True)) as database:
@@ -111,5 +113,5 @@ def wrong_in(path: str, files: dict[str, bytes], program: str) -> list[object]:
 
 def log_is_whole(path: str) -> object:
     """What index-log says against the log of a database, or nothing."""
-    ended = run_command([f"{BIN}/index-log", path])
+    ended = run_command([f"{BIN}/index-log", path], 600)
     return ended if ended.returncode else None

@@ -1,0 +1,112 @@
+"""Completion in bash: commands by the script alone, and names, files and releases from the index."""
+from __future__ import annotations
+
+import os
+import socket
+import subprocess
+import sys
+
+import pytest
+from support.indexctl.control import Control, environment
+from support.indexctl.scripted import always, as_json, scripted
+from support.places import TOP
+from support.serving import Index, accepted
+
+pytestmark = pytest.mark.xdist_group("completion")
+# the tool, which waits longer for an index if that is asked for: on a busy machine one may need more than a second
+TOOL = f"""#!{sys.executable} -S
+import os, sys
+sys.path.insert(0, "{TOP}")
+from indexctl.main import main
+from indexctl import completion
+completion.PATIENCE = float(os.environ.get("PATIENCE", completion.PATIENCE))
+sys.exit(main())
+"""
+BY_SCRIPT = {"nothing": ([""], {"token", "user", "case", "upload", "who", "--version"}), "use": (["use"], {"user"}),
+             "user": (["user", ""], {"add", "rotate", "lock", "leave"}),
+             "means": (["case", "attempt", "x", "pa"], {"pages"}),
+             "option": (["case", "transfer", "x", "--q"], {"--quiet"}),
+             "behind_a_value": (["case", "list", "--profile", "x", "--j"], {"--json"})}
+FROB = ["frob-1.0.tar.gz", "frob-1.10-py3-none-any.whl", "frob-1.9-py3-none-any.whl"]
+SHORT = [f"b{at}" for at in range(9)]
+BY_INDEX = {"names": (["who", "fro"], ["frob", "frost-bite"]), "a_name": (["files", "Frost_"], ["frost-bite"]),
+            "further_names": (["files", "frob", ""], [*SHORT, "frost-bite"]),
+            "names_behind_one": (["who", "frob", "fro"], ["frost-bite"]),
+            "names_of_an_owner": (["owner", "add", "bob", "frob", "fro"], ["frost-bite"]),
+            "files": (["file", "delete", "frob-1"], FROB),
+            "files_behind_one": (["file", "delete", FROB[0], "frob-1"], FROB[1:]),
+            "files_of_a_name": (["file", "ban", "frost"], ["frost_bite-1.0.tar.gz"]),
+            "files_of_many": (["file", "delete", "b"], [f"{it}-" for it in SHORT]),
+            "releases": (["release", "yank", "frob", ""], ["1.10", "1.9", "1.0"]),
+            "a_release": (["release", "unyank", "frob", "1.1"], ["1.10"]),
+            "nothing_behind": (["release", "yank", "frob", "1.0", ""], []),
+            "of_a_profile": (["who", "--profile", "other", "fro"], []),
+            "no_value": (["who", "--again", "fro"], [])}
+
+
+@pytest.fixture(scope="module")
+def bash(shared_folder):
+    """bash with the script, and `indexctl` on its PATH, with no token."""
+    return Bash(Control(shared_folder, None, INDEX_TOKEN=None))
+
+
+class Bash:
+    """What a shell offers, for an index at an address."""
+
+    def __init__(self, by: Control) -> None:
+        self.folder, self.script = by.home, by.run("completion", "bash").stdout
+        with open(f"{self.folder}/indexctl", "w", encoding="utf-8") as made:
+            made.write(TOOL)
+        os.chmod(made.name, 0o755)
+
+    def offers(self, words, **setting):
+        """What it offers for the last of these words. It says nothing else."""
+        listed = " ".join(f"'{it}'" for it in ("indexctl", *words))
+        text = (f"{self.script}\nCOMP_WORDS=({listed}); COMP_CWORD={len(words)}; _indexctl; "
+                "printf '%s\\n' \"${COMPREPLY[@]}\"")
+        path = f"{self.folder}:{os.environ['PATH']}"
+        ended = subprocess.run(["bash", "-c", text], stdout=subprocess.PIPE, stderr=subprocess.PIPE, timeout=60,
+                               text=True, env=environment(PATH=path, HOME=self.folder, **setting))
+        assert ended.stderr == "", ended.stderr
+        return ended.stdout.split()
+
+
+@pytest.mark.parametrize("what", BY_SCRIPT)
+def test_bash_completes_commands_and_options(bash, what):
+    words, wanted = BY_SCRIPT[what]
+    assert wanted <= set(bash.offers(words))
+
+
+@pytest.fixture(scope="module")
+def full_url(program):
+    """The address of an index with names, files and a release that came in no order."""
+    with Index(program) as index:
+        for name in ("frob", "Frost.Bite", *SHORT):
+            accepted(index.claim(name))
+        for file in FROB:
+            accepted(index.upload("frob", file, file.encode()))
+        accepted(index.upload("frost-bite", "frost_bite-1.0.tar.gz", b"x"))
+        yield f"http://127.0.0.1:{index.port}"
+
+
+@pytest.mark.parametrize("what", BY_INDEX)
+def test_bash_completes_what_the_index_has(bash, full_url, what):
+    words, wanted = BY_INDEX[what]
+    offered = [it for it in bash.offers(words, INDEX_URL=full_url, PATIENCE="30") if not it.startswith("--")]
+    assert offered == wanted
+
+
+def test_nothing_is_offered_and_nothing_said_if_the_index_does_not_answer(bash):
+    """Also by one that takes the connection and says nothing: other commands wait for that for a minute and a half, and
+    a shell has a minute here."""
+    with socket.create_server(("127.0.0.1", 0)) as silent:
+        url = f"http://127.0.0.1:{silent.getsockname()[1]}"
+        for setting in ({"INDEX_URL": url}, {"INDEX_URL": "http://127.0.0.1:9"}, {"INDEX_URL": "no address"}, {},
+                        {"INDEX_URL": url, "INDEX_TOKEN_FILE": "/none"}, {"INDEX_URL": "https://host.invalid"}):
+            assert bash.offers(["who", "fro"], **setting) == [], setting
+
+
+def test_no_text_of_a_server_becomes_a_command(bash):
+    names = [{"name": it} for it in ("fro$(touch /tmp/x)", "fro`id`", "fro;id", "fro b", "frob", "fro'", "fro\n-x")]
+    with scripted(always(*as_json({"meta": {}, "projects": names}))) as server:
+        assert bash.offers(["who", "fro"], INDEX_URL=server.url, PATIENCE="30") == ["frob"]

@@ -1,0 +1,40 @@
+"""What lists all requests lists each request of the rules: a list that lacks one fails nothing else."""
+from __future__ import annotations
+
+import glob
+import re
+
+from indexctl import replays
+from support import workload
+from support.compare.choice import Chooser
+from support.model import formats, rules
+from support.places import TOP
+
+REQUESTS = {*rules.REFUSALS_OF}
+# the refusal of what only the office may ask for
+NOT_THE_OFFICE = 3
+DO = re.compile(r'(?:\bdo=|"do": )"(\w+)"')
+
+
+def test_a_replay_knows_what_only_the_office_may_ask_for():
+    assert {*replays.OFFICE_ASKS} == {it for it in REQUESTS if NOT_THE_OFFICE in rules.REFUSALS_OF[it]}
+
+
+def test_a_replay_knows_which_requests_name_a_file():
+    assert {*replays.FILE_ASKS} == {it for it, keys in formats.KEYS.items() if "file" in keys.split()}
+
+
+def test_indexctl_asks_for_each_request():
+    asked: set = set()
+    for path in glob.glob(f"{TOP}/indexctl/**/*.py", recursive=True):
+        with open(path, encoding="utf-8") as kept:
+            asked |= {*DO.findall(kept.read())}
+    assert REQUESTS <= asked
+
+
+def test_kills_and_crashes_meet_each_request():
+    assert REQUESTS <= {asked["do"] for _, asked, *_ in workload.REQUESTS}
+
+
+def test_each_request_is_among_the_random_ones():
+    assert {*Chooser.OFTEN} == {*REQUESTS, "standing"} == {*formats.KEYS}

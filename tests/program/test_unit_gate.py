@@ -1,0 +1,111 @@
+"""The gate installs what its tests ask for: a test that is skipped there sees nothing. And tests that share what takes
+long run in one process, so that it is made once."""
+from __future__ import annotations
+
+import glob
+import re
+import signal
+import subprocess
+import sys
+
+import pytest
+from support.durations import name_of
+from support.inner_runs import run_tests
+from support.places import TOP
+from support.programs import program_of
+
+ASKED = re.compile(r'want_(?:command|module)\((?:\w+, )?"[^"]+", "([^"]+)"\)')
+# of each Debian, or with another package
+THERE = {"systemd", "util-linux", "python3-keyring"}
+
+
+def test_each_package_that_a_test_asks_for_is_installed():
+    asked = set()
+    for path in glob.glob(f"{TOP}/tests/**/*.py", recursive=True):
+        with open(path, encoding="utf-8") as kept:
+            asked |= {*ASKED.findall(kept.read())}
+    with open(f"{TOP}/.ci/run", encoding="utf-8") as kept:
+        installed = {*re.findall(r"[\w.+-]+", kept.read())}
+    assert {"nginx-light", "nftables", "python3-html5lib"} <= asked
+    assert not asked - installed - THERE
+
+
+def test_tests_of_a_group_go_to_one_worker():
+    """xdist then writes the group behind the name of a test."""
+    test = "tests/indexctl/test_pythons.py::test_the_version_is_that_of_the_newest_changes"
+    ended = run_tests(TOP, [test], "-vv", "-n", "1")
+    assert ended.status == 0 and f"PASSED {test}@pythons" in ended.said, ended.said
+
+
+@pytest.mark.parametrize("name", ["test_a.py::test_b", "test_a.py::test_b[c@d]", "test_a.py::test_b[c-d@e.f]"])
+def test_how_long_a_test_took_is_kept_by_its_name_alone(name):
+    assert name_of(f"{name}@group") == name_of(name) == name
+
+
+# a gate of three commands, of which the first two print more than a pipe holds when they are interrupted
+GATE = f"""
+import signal, sys
+from importlib.machinery import SourceFileLoader
+gate = SourceFileLoader("gate", {TOP + "/tests/run"!r}).load_module()
+def part(name):
+    talks = "trap 'seq 100000; exit 1' INT; echo begun $0; sleep 60 >&- 2>&- & wait"
+    return gate.Part(name, ["sh", "-c", talks, name], "")
+gate.want = lambda has_proofs: None
+def whole(jobs):
+    for number in signal.SIGINT, signal.SIGTERM:
+        signal.siginterrupt(number, comes == "at once")
+    return [], [part("beside")], [part("one"), part("two")]
+gate.whole = whole
+comes = sys.argv.pop()
+sys.exit(gate.main())
+"""
+
+
+@pytest.mark.parametrize("comes", ["at once", "late"])
+def test_a_gate_that_is_interrupted_twice_ends_and_begins_nothing_more(comes: str):
+    """Also if what it ends still prints much, and if Python is told of the signal late, as when it comes just before a
+    thread waits for a command."""
+    with subprocess.Popen([sys.executable, "-B", "-W", "ignore", "-c", GATE, comes], stdout=subprocess.PIPE, text=True,
+                          start_new_session=True) as run:
+        try:
+            assert run.stdout.readline() == "begun one\n"
+            run.send_signal(signal.SIGTERM)
+            run.send_signal(signal.SIGINT)
+            said, _ = run.communicate(timeout=60)
+        finally:
+            run.kill()
+    lines = said.splitlines()
+    assert lines[-1] == "interrupted: nothing is left running" and run.returncode in (128 + 15, 128 + 2)
+    assert "begun two" not in lines and "100000" in lines
+
+
+PASSES, FAILS = "echo 1 passed, 0 failed", "echo 'FAILED t.py::test_a[x y] - bad'; echo 0 passed, 1 failed; exit 1"
+TWO_FAIL = "echo FAILED t.py::test_a; echo FAILED t.py::test_b; echo 0 passed, 2 failed; exit 1"
+NO_NAME, SKIPS = "echo 0 passed, 1 failed; exit 1", "echo 0 passed, 0 failed"
+
+
+ERROR = "echo 'ERROR t.py::test_a[x y]@some_group - bad'; echo 0 passed, 1 failed; exit 1"
+
+
+@pytest.mark.parametrize("runs, is_by_chance, count", [
+    ([FAILS, PASSES, PASSES], True, 3), ([FAILS, FAILS], False, 2), ([FAILS, PASSES, FAILS], False, 3),
+    ([ERROR, PASSES, PASSES], True, 3), ([ERROR, ERROR], False, 2),
+    ([FAILS, SKIPS], False, 2), ([TWO_FAIL], False, 1), ([NO_NAME], False, 1), ([PASSES], True, 1)])
+def test_one_test_that_failed_has_to_pass_twice_alone(tmp_path, runs, is_by_chance, count):
+    """Each run is the next of these commands."""
+    for number, text in enumerate(runs):
+        (tmp_path / str(number)).write_text(text)
+    talks = f"cd {tmp_path}; echo \"$@\" >> asked; next=$(ls [0-9] | head -n 1); mv $next done; . ./done"
+    gate = program_of(f"{TOP}/tests/run")
+    part = gate.Part("tests", ["sh", "-c", talks, "sh", f"{TOP}/tests", "--seed", "1"], "")
+    part.run()
+    gate.ask_again(part)
+    asked = (tmp_path / "asked").read_text().splitlines()
+    assert (part.status == 0, part.failed == 0, len(asked)) == (is_by_chance, is_by_chance, count)
+    assert set(asked[1:]) <= {"t.py::test_a[x y] --seed 1 -n 0 --alone"}
+
+
+def test_a_test_that_runs_by_turns_runs_alone_whatever_its_turn_is():
+    one, words = "test_breaks.py::test_is_seen[server-nobody_waits]", ["--collect-only", "--share", "1/16"]
+    assert one not in run_tests(TOP, [f"tests/mutants/{one}"], *words).said
+    assert one in run_tests(TOP, [f"tests/mutants/{one}"], *words, "--alone").said

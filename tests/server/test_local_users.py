@@ -1,0 +1,28 @@
+"""local-users.nft keeps people with an account from the ports of the index, and lets nginx and the units go on."""
+from __future__ import annotations
+
+import pytest
+from support.needed import want_command
+from support.places import SERVER
+from support.running import run_command
+
+RULES = f"{SERVER}/nftables/local-users.nft"
+# a network of its own, in which somebody listens at this port; as a user, this address is asked for
+ASKS = """ip link set lo up && nft -f "$1" && nft -f "$1" || exit 9
+python3 -S -m http.server --bind 127.0.0.1 "$3" > /dev/null 2>&1 & server=$!
+until ss -Hltn "sport = :$3" | grep -q .; do sleep 0.1; done
+setpriv --reuid "$2" --clear-groups curl -sS -o /dev/null -w '%{http_code}' "http://127.0.0.1:$3/"; status=$?
+kill $server
+exit $status"""
+
+
+@pytest.mark.parametrize("user, port, is_let_in", [
+    (0, 8080, True), (33, 8080, True), (999, 8080, True), (61_184, 8080, True), (1_000, 8080, False),
+    (59_999, 8080, False), (1_000, 8079, False), (1_000, 8090, False), (1_000, 8443, True)])
+def test_people_are_kept_from_the_ports_of_the_index(user, port, is_let_in):
+    want_command("nft", "nftables")
+    alone = ["unshare", "--net", "sh", "-c", ASKS, "sh", RULES, str(user), str(port)]
+    if run_command(["unshare", "--net", "nft", "add", "table", "inet", "x"]).returncode:
+        pytest.skip("this machine lets nobody make a network of its own")
+    ended = run_command(alone)
+    assert (ended.returncode, "200" in ended.stdout) == ((0, True) if is_let_in else (7, False)), ended.stdout
