@@ -17,7 +17,7 @@ from support.two_machines.image import command, want_packages
 from support.two_machines.latency import measure
 from support.two_machines.partitions import alone_with_defaults, defaults_of_drbd, pull_the_cable
 from support.two_machines.rounds import cut_again_and_again
-from support.two_machines.second_cuts import cut_both, cut_in_a_resync
+from support.two_machines.second_cuts import cut_both, cut_in_a_resync, cut_the_source, cut_the_target
 from support.two_machines.set_up import served_by_two
 
 ROUNDS = 3
@@ -65,12 +65,21 @@ def both(program, folder, count, chance, looked):
         cut_both(pair, index, folder, program, count, chance, looked)
 
 
-def resync(program, folder, count, chance, looked):
-    """The power is cut while a machine is brought up to date, of the one that serves: nothing is lost there, and the
+def resync_source(program, folder, count, chance, looked):
+    """While a machine is brought up to date, the power of the one that serves is cut: nothing is lost there, and the
     other one does not serve."""
+    resync(program, folder, count, chance, looked, cut_the_source)
+
+
+def resync_target(program, folder, count, chance, looked):
+    """The same, but its own power is cut: it does not serve until it has all, and then nothing is lost."""
+    resync(program, folder, count, chance, looked, cut_the_target)
+
+
+def resync(program, folder, count, chance, looked, cut):
     with served_by_two(program, folder) as (pair, index):
         looked(index.claim("frob")[0] == 200)
-        cut_in_a_resync(pair, index, folder, program, count, chance, looked)
+        cut_in_a_resync(pair, index, folder, program, count, chance, looked, cut)
 
 
 def latency(program, folder, count, chance, looked):
@@ -83,7 +92,7 @@ def latency(program, folder, count, chance, looked):
 
 
 PARTS = {"rounds": rounds, "cable": cable, "defaults": defaults}
-BY_HAND = {"both": both, "resync": resync, "latency": latency}
+BY_HAND = {"both": both, "resync_source": resync_source, "resync_target": resync_target, "latency": latency}
 
 
 @pytest.mark.by_turns("two_machines")

@@ -3,6 +3,7 @@ from __future__ import annotations
 
 import random
 import time
+from collections.abc import Callable
 from statistics import median
 
 from support.server.waits import wait_for
@@ -11,11 +12,11 @@ from support.two_machines.page import block
 from support.two_machines.pair import Pair, out_of_step, state_of
 from support.two_machines.partitions import PATIENCE, accepts
 from support.two_machines.rounds import LATEST, look
-from support.two_machines.set_up import BACK, START, TAKE, follow, prepare, take
+from support.two_machines.set_up import BACK, LEAVE, START, TAKE, bring_back, follow, prepare, take
 from support.two_machines.uploads import Served, Uploader
 
-# 8 MiB at 40 to 80 KiB a second: a resync takes two minutes or more, so it is under way in the first seconds
-BEHIND = "dd if=/dev/urandom of=/var/lib/index/filler bs=4k count=2048 conv=fsync,notrunc"
+# 16 MiB at 40 to 80 KiB a second: a resync takes four minutes or more, so it is under way in the first seconds
+BEHIND = "dd if=/dev/urandom of=/var/lib/index/filler bs=4k count=4096 conv=fsync,notrunc"
 # a machine takes the rate of the other one when it connects
 SLOWLY = "drbdsetup disk-options 0 --c-plan-ahead=0 --resync-rate=40K"
 QUICKLY = "drbdsetup disk-options 0 --c-plan-ahead=20 --resync-rate=20M"
@@ -107,7 +108,7 @@ def look_refused_alone(other: Guest, looked) -> None:
     looked(status == 17 and NOT_ALONE in said, status, said)
 
 
-def cut_the_source(pair: Pair, index: Served, uploader: Uploader, looked) -> None:
+def cut_the_source(pair: Pair, index: Served, uploader: Uploader, looks: Callable[[], None], looked) -> None:
     """The machine that serves is cut while the other one is copied from it. Only that one has all, so only it goes on:
     as soon as it is back, and before the other one is up to date, for which DRBD now copies the whole disk."""
     active, other = index.guest, pair.other(index.guest)
@@ -123,28 +124,63 @@ def cut_the_source(pair: Pair, index: Served, uploader: Uploader, looked) -> Non
     take(active)
     looked(index.answers() and uploader.goes_on(), "the newer copy does not serve", pair.states())
     looked("Inconsistent/" in state_of(other), "the resync was over", pair.states())
+    looks()
+
+
+def cut_the_target(pair: Pair, index: Served, uploader: Uploader, looks: Callable[[], None], looked) -> None:
+    """The machine that is brought up to date is cut. The other one goes on, and brings it up to date once it is back.
+    Until then it does not serve. Once it has all, it does, alone."""
+    active, other = index.guest, pair.other(index.guest)
+    look_refused(other, looked)
+    before = out_of_step(active)
+    other.cut()
+    looked(uploader.goes_on() and uploader.goes_on(), "the one that serves does not go on", pair.states())
+    looks()
+    join(pair, other, SLOWLY)
+    look_refused_alone(other, looked)
+    active.put_cable(True)
+    wait_for_progress(other)
+    print(f"{before} KiB were out of step at the cut, {out_of_step(active)} are in the resync after it", flush=True)
+    look_refused(other, looked)
+    active.must(block(LEAVE, starts=True))
+    # DRBD alone would take this copy now, as above
+    look_refused(other, looked)
+    take(active)
+    looked(index.answers() and uploader.goes_on(), "it does not serve again", pair.states())
+    looked("Inconsistent/" in state_of(other), "the resync was over", pair.states())
+    begin_again(pair)
+    active.cut()
+    take(other)
+    index.guest = other
+    looked(index.answers() and uploader.goes_on(), "the copy that has all does not serve", pair.states())
+    looks()
 
 
 def begin_again(pair: Pair) -> None:
-    """Both machines have the same disk, for another round."""
+    """Both machines run and have the same disk."""
+    for guest in pair.guests:
+        if guest.process is None:
+            bring_back(pair, guest)
     for guest in pair.guests:
         guest.must(QUICKLY)
     pair.wait_until_in_step()
 
 
-def cut_in_a_resync(pair: Pair, index: Served, folder: str, program: str, count: int, chance: random.Random,
-                    looked) -> None:
-    """While one machine is brought up to date, the power of the one that serves is cut."""
+def cut_in_a_resync(pair: Pair, index: Served, folder: str, program: str, count: int, chance: random.Random, looked,
+                    cut: Callable[..., None]) -> None:
+    """While one machine is brought up to date, the power of one of the two is cut."""
     with Uploader(index, "frob", random.Random(chance.random())) as uploader:
+        def looks() -> None:
+            wrong = look(index.guest, folder, program, [uploader])
+            print(f"{index.guest.name} serves, {len(uploader.files)} acknowledged, {len(wrong)} wrong, "
+                  f"{time.monotonic() - begun:.0f} s", flush=True)
+            looked(not wrong, wrong[:5])
+
         for number in range(count):
             begun = time.monotonic()
+            if number:
+                begin_again(pair)
             fall_behind(pair, index, uploader, looked)
             time.sleep(chance.uniform(0, LATEST))
             print(f"{number + 1}: {out_of_step(index.guest)} KiB are out of step", flush=True)
-            cut_the_source(pair, index, uploader, looked)
-            wrong = look(index.guest, folder, program, [uploader])
-            print(f"resync {number + 1}: {index.guest.name} serves again; {len(uploader.files)} acknowledged, "
-                  f"{len(wrong)} wrong, {time.monotonic() - begun:.0f} s", flush=True)
-            looked(not wrong, wrong[:5])
-            if number < count - 1:
-                begin_again(pair)
+            cut(pair, index, uploader, looks, looked)
