@@ -88,6 +88,14 @@ def test_a_proof_that_fails_makes_no_release(releases):
     assert not os.path.exists(releases.none)
 
 
+def test_a_folder_that_was_made_meanwhile_is_left_as_it_is(releases):
+    assert releases.of_the_gate
+    taken = f"{releases.folder}/taken"
+    ended = releases.refused["a folder made meanwhile"]
+    assert (ended.returncode, ended.stdout) == (1, f"release: {taken} was made by another command meanwhile\n")
+    assert os.listdir(taken) == []
+
+
 def test_a_release_of_a_program_that_is_built_is_the_same(releases):
     assert_ends(releases.of_a_program, 0, f" {TAG} {releases.commit}\n")
     assert releases.sums("first") and releases.sums("first") == releases.sums("built")

@@ -50,8 +50,9 @@ version=$(sed -n 's/^const VERSION: &str = \(".*"\);$/\1/p' crates/index_args/sr
 cc -DVERSION="$version" -o crates/index/out/index tools/program.c
 """
 
-# in the place of the kit's command, which proves and builds as the gate does
-RT = BUILD.replace('cd "$(dirname "$0")/.."', 'test "$*" = ci && test -z "$RT_FAILS" && touch "$RT_CALLED"')
+# in the place of the kit's command, which proves and builds as the gate does; it may make a folder meanwhile
+RT = BUILD.replace('cd "$(dirname "$0")/.."', 'test "$*" = ci && test -z "$RT_FAILS" && touch "$RT_CALLED" && '
+                   'mkdir -p "${RT_MAKES:-.}"')
 
 
 class Repository:
@@ -162,9 +163,10 @@ class Releases:
         write_below(self.folder, "bin/rt", RT)
         os.chmod(f"{self.folder}/bin/rt", 0o755)
         setting = {"PATH": f"{self.folder}/bin:{os.environ['PATH']}", "RT_CALLED": f"{self.folder}/called"}
-        self.refused["a proof that fails"] = self.repository.release(self.none, VERSION, self.commit, "--gate",
-                                                                     RT_FAILS="yes", **setting)
-        return self.repository.release(f"{self.folder}/gate", VERSION, self.commit, "--gate", **setting)
+        words, taken = (VERSION, self.commit, "--gate"), f"{self.folder}/taken"
+        self.refused["a proof that fails"] = self.repository.release(self.none, *words, RT_FAILS="yes", **setting)
+        self.refused["a folder made meanwhile"] = self.repository.release(taken, *words, RT_MAKES=taken, **setting)
+        return self.repository.release(f"{self.folder}/gate", *words, **setting)
 
     def sums(self, name: str) -> str:
         return written(f"{self.folder}/{name}/SHA256SUMS")
