@@ -4,7 +4,8 @@ from __future__ import annotations
 import glob
 from pathlib import Path
 
-from definitions import Definition, defined_again, definitions, file_sentence, text_of
+from definitions import Definition, defined_again, definitions, file_sentence
+from texts import read
 
 HERE = str(Path(__file__).resolve().parent.parent.parent)
 SHELF = """-- Books on a shelf. What stands
@@ -89,7 +90,7 @@ def test_a_word_that_is_defined_again_in_its_own_file_is_printed(tmp_path):
 
 def test_all_definitions_of_the_crates_are_found():
     lines = [line.split() for path in glob.glob("crates/*/specs/*.antt", root_dir=HERE)
-             for line in text_of(HERE, path).split("\n")]
+             for line in read(f"{HERE}/{path}").split("\n")]
     wanted = [words[2] for words in lines
               if words[:2] in (["abbrev", "pub"], ["unfoldable", "pub"], ["pub", "record"], ["pub", "data"])]
     assert len(wanted) > 1000

@@ -4,6 +4,8 @@ import collections
 import glob
 import re
 
+from texts import read
+
 CLAUSE = re.compile(r"^\s*(ensures|requires)\*?\s*\w*\s*\{", re.M)
 TOKEN = re.compile(r"\s*(λ|[()\[\]{}⟦⟧⟨⟩]|\"[^\"]*\"|[^\s()\[\]{}⟦⟧⟨⟩,;\"λ]+|[,;])")
 OPENING, CLOSING = "([{⟦⟨", ")]}⟧⟩"
@@ -14,8 +16,7 @@ BETWEEN = frozenset("≡ ≢ × → ↔ ⊎ ¬ + - * ≤ < ∷ ++ && || , ; . : 
 def sources(top):
     """Yields the path and the text of each source file of a crate."""
     for path in sorted(glob.glob("crates/*/src/**/*.rt", root_dir=top, recursive=True)):
-        with open(f"{top}/{path}", encoding="utf-8") as file:
-            yield path, file.read()
+        yield path, read(f"{top}/{path}")
 
 
 def clauses(text):
@@ -79,9 +80,8 @@ def long_lines(lines, columns):
 def long_spec_lines(top, columns):
     """Yields where a line of a crate's specs has more than so many columns."""
     for path in sorted(glob.glob("crates/*/specs/**/*.antt", root_dir=top, recursive=True)):
-        with open(f"{top}/{path}", encoding="utf-8") as file:
-            for number in long_lines(enumerate(file.read().splitlines(), 1), columns):
-                yield f"{path}:{number}"
+        for number in long_lines(enumerate(read(f"{top}/{path}").splitlines(), 1), columns):
+            yield f"{path}:{number}"
 
 
 def long_clause_lines(top, columns):

@@ -3,7 +3,8 @@ import os
 import re
 import shutil
 
-from edits import open_text, written_in
+from edits import written_in
+from texts import read, write
 
 HOLE = """use Rattle.{crate}.proofs.{path}.Statement.{{statement}}
 
@@ -17,7 +18,7 @@ UNASKED = "\npub unasked : goal.unasked\nunasked = ?\n"
 def functions_of(rt, crate):
     """Returns the functions that stand in the crate's files."""
     code = [it for it in rt.rtlib.files_of(crate.folder) if it.endswith(".rt")]
-    found = {path for it in code for path, _ in written_in(os.path.relpath(it, f"{crate.folder}/src"), open_text(it))}
+    found = {path for it in code for path, _ in written_in(os.path.relpath(it, f"{crate.folder}/src"), read(it))}
     return sorted(found)
 
 
@@ -27,8 +28,7 @@ def make_copy(rt, crate, texts, to):
         if os.path.isdir(f"{crate.folder}/{part}"):
             shutil.copytree(f"{crate.folder}/{part}", f"{to}/{part}")
     for path, text in texts.items():
-        with open(f"{to}/{path}", "w", encoding="utf-8") as it:
-            it.write(text)
+        write(f"{to}/{path}", text)
 
 
 def make_holes(rt, crate, functions, to):
@@ -41,8 +41,7 @@ def make_holes(rt, crate, functions, to):
         for name in ("Answers.antt", "Invariants.antt"):
             if os.path.exists(f"{at}/{name}"):
                 os.remove(f"{at}/{name}")
-        with open(f"{at}/Proof.antt", "w", encoding="utf-8") as it:
-            it.write(HOLE.format(crate=crate.name, path=path, name=path.rpartition(".")[2]))
+        write(f"{at}/Proof.antt", HOLE.format(crate=crate.name, path=path, name=path.rpartition(".")[2]))
 
 
 def copy_proofs(crate, function, copy, to):
@@ -53,8 +52,7 @@ def copy_proofs(crate, function, copy, to):
     os.makedirs(now)
     whole = re.compile(rf"(Rattle\.{crate.name}\.proofs\.){re.escape(function.replace('::', '.'))}(?=\.)")
     for name in (it for it in os.listdir(was) if os.path.isfile(f"{was}/{it}")):
-        with open(f"{now}/{name}", "w", encoding="utf-8") as it:
-            it.write(whole.sub(rf"\1{copy.replace('::', '.')}", open_text(f"{was}/{name}")))
+        write(f"{now}/{name}", whole.sub(rf"\1{copy.replace('::', '.')}", read(f"{was}/{name}")))
 
 
 def answer_what_is_not_asked(crate, function, to):
@@ -65,6 +63,5 @@ def answer_what_is_not_asked(crate, function, to):
         return
     os.makedirs(at, exist_ok=True)
     file, goals = f"{at}/Answers.antt", f"use Rattle.{crate.name}.proofs.{function.replace('::', '.')}.Goals as goal\n"
-    text = open_text(file) if os.path.exists(file) else goals
-    with open(file, "w", encoding="utf-8") as it:
-        it.write(text + UNASKED)
+    text = read(file) if os.path.exists(file) else goals
+    write(file, text + UNASKED)

@@ -3,6 +3,8 @@ import glob
 import re
 from typing import Dict, Iterable, Iterator, List, NamedTuple
 
+from texts import read
+
 DEFINED = re.compile(r" *(?:(?:abbrev|unfoldable) pub|pub record|pub data) (\S+)")
 # of a heading, which begins with "-- ----", what follows
 COMMENT = re.compile(r" *-- ?(?:---- ?)?(.*)")
@@ -52,11 +54,6 @@ def files(top: str, crate: str = "*") -> Iterator[str]:
     return (it for it in found if not it.endswith("/Lib.antt"))
 
 
-def text_of(top: str, path: str) -> str:
-    with open(f"{top}/{path}", encoding="utf-8") as file:
-        return file.read()
-
-
 def name_of(path: str) -> str:
     """CRATE/FILE, from a path."""
     return path.replace("crates/", "", 1).replace("/specs/", "/").replace(".antt", "")
@@ -71,7 +68,7 @@ def file_sentence(text: str) -> str:
 def definitions(top: str, crate: str = "*") -> Iterator[Definition]:
     """All definitions, file by file."""
     for path in files(top, crate):
-        yield from in_file(name_of(path), text_of(top, path))
+        yield from in_file(name_of(path), read(f"{top}/{path}"))
 
 
 def defined_again(found: Iterable[Definition]) -> Iterator[str]:

@@ -2,14 +2,11 @@
 import os
 import re
 
+from texts import read
+
 # the head of an impl that is of no trait, and of a function, in a file that `rt fmt` laid out
 IMPL = re.compile(r"impl\b(?:<.*?>)? (\w+)(?:<.*>)? \{$")
 FUNCTION = re.compile(r"( {4})?(?:pub(?:\(\w+\))? )?(?:const )?fn (\w+)")
-
-
-def open_text(file):
-    with open(file, encoding="utf-8") as it:
-        return it.read()
 
 
 class Edit:
@@ -43,7 +40,7 @@ class Edit:
         """Returns why the twin can't be made, or None."""
         texts = {}
         for path, old, comes in self.pairs():
-            text = texts.get(path) or open_text(f"{folder}/{path}")
+            text = texts.get(path) or read(f"{folder}/{path}")
             if comes == old:
                 return "its twin is the text that stands there"
             if text.count(old) != 1:
@@ -56,7 +53,7 @@ class Edit:
         what the edits beside this one are judged by."""
         name, texts = self.function.rpartition("::")[2], {}
         for path, old, new in self.pairs():
-            text = texts.get(path) or open_text(f"{folder}/{path}")
+            text = texts.get(path) or read(f"{folder}/{path}")
             above = text[: text.index(old) + len(old)]
             if re.findall(r"\bfn (\w+)", above)[-1:] != [name]:
                 return False
@@ -71,7 +68,7 @@ class Edit:
             return self.in_a_copy(folder, texts, asked)
         made = dict(texts)
         for path, old, new in self.pairs():
-            text = made.get(path) or open_text(f"{folder}/{path}")
+            text = made.get(path) or read(f"{folder}/{path}")
             if text.count(old) != 1:
                 return None, None
             made[path] = text.replace(old, new)
@@ -83,7 +80,7 @@ class Edit:
         while f"{self.function}_{number}" in asked:
             number += 1
         path, name = pairs[0][0], self.function.rpartition("::")[2]
-        whole = open_text(f"{folder}/{path}")
+        whole = read(f"{folder}/{path}")
         found = heads_of(whole, name)
         nth = len([it for it in found if it <= whole.count("\n", 0, whole.index(pairs[0][1]))]) - 1
         span = span_of(whole, found[nth])

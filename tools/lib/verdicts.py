@@ -2,6 +2,8 @@
 import os
 import re
 
+from texts import read
+
 # how the prover says that a file is no function's proof, and that one names what is not there
 UNREAD = re.compile(r"^\./(proofs/\S+/Proof\.antt): error: rattle does not read this file", re.M)
 STALE = re.compile("has no field|has no `|is not in scope|can be named from here")
@@ -70,8 +72,7 @@ def answers_of(folder, function):
     file = f"{folder}/proofs/{function.replace('::', '/')}/Answers.antt"
     if not os.path.exists(file):
         return []
-    with open(file, encoding="utf-8") as it:
-        return re.findall(r"^pub (\S+) :", it.read(), re.M)
+    return re.findall(r"^pub (\S+) :", read(file), re.M)
 
 
 def is_weak(goals, answers):

@@ -1,8 +1,10 @@
 """The calls and clauses that CLAUSES names in its tables, and whether the contracts of the code have them; the
 definitions that it names in its tables of steps, and whether they have their lines."""
+import glob
 import os
 import re
 
+from contracts import sources
 from pages.files import read
 from top import TOP
 
@@ -20,11 +22,9 @@ def contracts():
     """The functions of the crates up to their bodies, their traits and structs, by name, each with the text of its
     file."""
     found = {}
-    for folder, _, files in os.walk(f"{TOP}/crates"):
-        for file in files if "/src" in folder else []:
-            text = read(os.path.relpath(f"{folder}/{file}", TOP))
-            for match in (*FUNCTION.finditer(text), *TYPE.finditer(text)):
-                found.setdefault(match[1], []).append((match[0], f"//{file}\n{text}"))
+    for path, text in sources(TOP):
+        for match in (*FUNCTION.finditer(text), *TYPE.finditer(text)):
+            found.setdefault(match[1], []).append((match[0], f"//{os.path.basename(path)}\n{text}"))
     return found
 
 
@@ -47,10 +47,9 @@ def promises():
 def definitions():
     """The definitions in the specs of the crates, by name, each with its text."""
     found = {}
-    for folder, _, files in os.walk(f"{TOP}/crates"):
-        for file in files if "/specs" in folder else []:
-            for match in DEFINITION.finditer(read(os.path.relpath(f"{folder}/{file}", TOP))):
-                found.setdefault(match[1], []).append(match[0])
+    for path in glob.glob("crates/*/specs/**/*.antt", root_dir=TOP, recursive=True):
+        for match in DEFINITION.finditer(read(path)):
+            found.setdefault(match[1], []).append(match[0])
     return found
 
 

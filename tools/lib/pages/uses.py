@@ -1,8 +1,8 @@
 """The lines of use with which the README of each crate begins, and whether each call in them is one of the crates, with
 as many arguments, and each variant one of its type. They are not compiled."""
-import os
 import re
 
+from contracts import sources
 from pages.files import read
 from top import TOP
 
@@ -20,10 +20,9 @@ OTHERS = {"BufReader::new", "Vec::new", "io::writer", ".stdin", ".as_slice", "ch
 def crates():
     """The crates, by name, each with what its sources say."""
     found = {}
-    for name in sorted(os.listdir(f"{TOP}/crates")):
-        files = (f"{folder}/{file}" for folder, _, files in os.walk(f"{TOP}/crates/{name}/src") for file in files)
-        found[name] = "\n".join(read(os.path.relpath(file, TOP)) for file in sorted(files))
-    return {name: text for name, text in found.items() if text}
+    for path, text in sources(TOP):
+        found.setdefault(path.split("/")[1], []).append(text)
+    return {name: "\n".join(texts) for name, texts in found.items()}
 
 
 def parts(text, at):
