@@ -3,7 +3,6 @@ from __future__ import annotations
 
 import argparse
 import json
-import urllib.parse
 from contextlib import AbstractContextManager
 from dataclasses import replace
 from typing import Callable, Dict, Mapping, Optional, Tuple
@@ -16,7 +15,7 @@ from indexctl.settings import find_setting
 from indexctl.terminal import note, say
 from indexctl.transport import Headers, Index, Request, foreign, object_of
 from indexctl.units import moment_now
-from package_index.names import normal
+from package_index.names import file_path, normal
 
 Row = Mapping[str, object]
 NOTHING: Dict[str, str] = {}
@@ -106,9 +105,9 @@ class Desk:
         return self.tell(what, row, *self.post(what, row, token, more=more))
 
     def delete(self, file: str, more: Row = NOTHING) -> bool:
-        path = f"/files/{project_of(file)}/{urllib.parse.quote(file, safe='')}"
         row, what = {"do": "delete", "file": file}, f"delete {file}"
-        return self.tell(what, row, *self.send(what, row, Request("DELETE", path), more=more))
+        request = Request("DELETE", file_path(project_of(file), file))
+        return self.tell(what, row, *self.send(what, row, request, more=more))
 
     def status(self) -> int:
         return REFUSED if self.refused else 0

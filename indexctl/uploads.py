@@ -8,7 +8,6 @@ import os
 import re
 import tarfile
 import time
-import urllib.parse
 import zipfile
 from typing import IO, Iterator, List, Optional, Sequence, cast
 
@@ -16,7 +15,7 @@ from indexctl.changes import Desk
 from indexctl.ends import WRONG, Stop
 from indexctl.terminal import Progress, note, say
 from indexctl.transport import Request
-from package_index.names import normal, read_file_name
+from package_index.names import file_path, normal, read_file_name
 
 MOST_BYTES, PIECE, MOST_TEXT = 16_777_216, 1 << 18, 512
 SPECIFIER = re.compile(r"\s*(?:~=|===?|!=|<=?|>=?)\s*[0-9A-Za-z][0-9A-Za-z.*+!_-]*\s*")
@@ -109,8 +108,7 @@ def files_of(paths: Sequence[str]) -> List[File]:
 def upload_file(desk: Desk, file: File, claims: bool) -> bool:
     """Uploads one file, and claims its name first if nobody holds it and `claims` is set. Gives whether it is there."""
     headers = {"X-Index-SHA256": file.digest, **({"X-Requires-Python": file.requires} if file.requires else {})}
-    path = f"/files/{file.project}/{urllib.parse.quote(file.name, safe='')}"
-    request = Request("PUT", path, tuple(headers.items()), file.pieces, file.size)
+    request = Request("PUT", file_path(file.project, file.name), tuple(headers.items()), file.pieces, file.size)
     row = {"do": "upload", "file": file.name, "sha256": file.digest, "requires_python": file.requires}
     begun = time.monotonic()
     status, answer = desk.send(file.name, row, request)

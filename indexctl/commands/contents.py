@@ -39,6 +39,9 @@ def size_text(row: Any) -> str:
     return human(row.size)
 
 
+RELEASE_COLUMNS: Columns = {**texts("release"), "size": size_text, "yanked": yanked_text, **texts("files")}
+
+
 def contents_of(index: Index, name: str) -> List[FileRow]:
     """The files of a name that has to be held."""
     found = find_contents(index, name)
@@ -61,7 +64,7 @@ def files(args: argparse.Namespace) -> None:
 def releases(args: argparse.Namespace) -> None:
     check_names(args.name)
     rows = releases_of(args.name, contents_of(Desk(args).index, args.name))
-    listing(args, rows, {**texts("release"), "size": size_text, "yanked": yanked_text, **texts("files")})
+    listing(args, rows, RELEASE_COLUMNS)
 
 
 @command("status", "shows a name: owners, quota, an open case and what it lacks, files, and yanks", NAME, JSON)
@@ -78,8 +81,7 @@ def status(args: argparse.Namespace) -> None:
     most = shutil.get_terminal_size().columns
     print_block({head: printable(text) for head, text in status_texts(row).items()}, most)
     if row.files:
-        columns: Columns = {**texts("release"), "size": size_text, "yanked": yanked_text, **texts("files")}
-        listing(args, releases_of(row.name, row.files), columns)
+        listing(args, releases_of(row.name, row.files), RELEASE_COLUMNS)
 
 
 def status_row(desk: Desk, found: Standing) -> StatusRow:

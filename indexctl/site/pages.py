@@ -8,9 +8,10 @@ from typing import Iterator, List, Sequence, Tuple
 from indexctl.contents import FileRow
 from indexctl.page import kind_of, part_of_page, text_of
 from indexctl.site.about import About
-from indexctl.site.projects import Project, Release, file_path
+from indexctl.site.projects import Project, Release
 from indexctl.standings import Case, Standing
 from indexctl.units import counted, human, moment
+from package_index.names import file_path
 
 KINDS = {"continue": "to continue the project", "reuse": "to reuse the name"}
 

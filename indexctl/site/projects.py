@@ -2,7 +2,6 @@
 from __future__ import annotations
 
 import itertools
-import urllib.parse
 from dataclasses import dataclass
 from typing import Dict, List, Optional, Sequence, Tuple
 
@@ -11,6 +10,7 @@ from indexctl.site.about import NOTHING, About, read_about
 from indexctl.standings import Standing, find_standing, listed_names, side_by_side
 from indexctl.transport import Index, Request
 from indexctl.versions import is_final, is_release
+from package_index.names import file_path
 
 Release = Tuple[str, List[FileRow]]
 
@@ -40,11 +40,6 @@ def newest_wheel(releases: Sequence[Release], newest: str) -> Optional[FileRow]:
     """The first wheel of the newest release, or of the newest that has one."""
     wheels = [it for _, files in releases for it in files if it.file.endswith(".whl") and it.sha256]
     return next((it for it in wheels if it.release == newest), wheels[0] if wheels else None)
-
-
-def file_path(name: str, file: str) -> str:
-    """The path of a file on the index."""
-    return f"/files/{name}/{urllib.parse.quote(file, safe='')}"
 
 
 def find_about(index: Index, name: str, wheel: FileRow, kept: Dict[str, About]) -> About:

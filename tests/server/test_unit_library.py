@@ -56,6 +56,16 @@ def test_a_copy_has_the_bytes_and_is_synced(tmp_path, monkeypatch):
     assert [os.path.getmtime(tmp_path / it) == 5 for it in "bc"] == [False, True]
 
 
+@pytest.mark.parametrize("words, mode", [((), 0o600), ((0o644,), 0o644)])
+def test_a_file_is_written_whole_with_the_mode_that_is_asked_for(tmp_path, words, mode):
+    before = os.umask(0o077)
+    for text in ("longer text\n", "text\n"):
+        disk.put_whole(str(tmp_path / "x.prom"), text, *words)
+    os.umask(before)
+    assert os.listdir(tmp_path) == ["x.prom"] and (tmp_path / "x.prom").read_text() == "text\n"
+    assert (tmp_path / "x.prom").stat().st_mode & 0o777 == mode
+
+
 def test_a_folder_is_synced_too_and_what_is_not_there_is_an_error(tmp_path, monkeypatch):
     synced = recorded(monkeypatch, "fsync")
     disk.sync(str(tmp_path))

@@ -140,14 +140,6 @@ def test_the_end_of_a_certificate_is_read_as_utc(tmp_path, monkeypatch):
     METRICS.time.tzset()
 
 
-def test_a_file_is_written_whole_for_everybody(tmp_path):
-    before = os.umask(0o077)
-    METRICS.write(str(tmp_path / "x.prom"), "text\n")
-    os.umask(before)
-    assert os.listdir(tmp_path) == ["x.prom"] and (tmp_path / "x.prom").read_text() == "text\n"
-    assert (tmp_path / "x.prom").stat().st_mode & 0o777 == 0o644
-
-
 def test_what_is_asked_by_the_words(tmp_path, monkeypatch, capsys):
     seen = {}
     for name in ("files", "rooms", "last_look", "looks", "restarts", "certificate"):

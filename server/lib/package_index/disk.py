@@ -2,6 +2,7 @@
 from __future__ import annotations
 
 import os
+from typing import Optional
 
 from package_index.commands import run
 from package_index.ends import Refused
@@ -35,6 +36,15 @@ def sync(path: str) -> None:
         os.fsync(opened)
     finally:
         os.close(opened)
+
+
+def put_whole(path: str, text: str, mode: Optional[int] = None) -> None:
+    """Puts a file there as a whole: a reader sees what was there, or all of this. With a mode it gets that one."""
+    with open(f"{path}.part", "w", encoding="utf-8") as made:
+        made.write(text)
+    if mode is not None:
+        os.chmod(f"{path}.part", mode)
+    os.replace(f"{path}.part", path)
 
 
 def copy(source: str, target: str, *options: str) -> None:

@@ -6,7 +6,7 @@ import signal
 import sys
 from contextlib import contextmanager
 from types import FrameType
-from typing import Callable, Iterator, Optional
+from typing import Callable, Iterator, List, Optional
 
 SIGNALS = signal.SIGHUP, signal.SIGINT, signal.SIGTERM
 
@@ -52,6 +52,15 @@ def let_in() -> Iterator[None]:
         yield
     finally:
         signal.pthread_sigmask(signal.SIG_BLOCK, SIGNALS)
+
+
+def words_of(usage: str, least: int, most: int) -> List[str]:
+    """The words of a command line without options, so many. Prints `usage` and ends if they are others."""
+    words = sys.argv[1:]
+    if not least <= len(words) <= most or words and words[0].startswith("-"):
+        print(usage)
+        sys.exit(0 if words in (["-h"], ["--help"]) else 2)
+    return words
 
 
 def tell(text: str) -> None:

@@ -6,6 +6,7 @@ import time
 from typing import BinaryIO, Iterator, NamedTuple, Optional, Tuple
 
 from package_index.changes import lines_of, rotated
+from package_index.disk import put_whole
 
 PAUSE = 0.2
 
@@ -27,9 +28,7 @@ def place_in(path: str) -> Optional[Place]:
 
 
 def keep_place(path: str, place: Place) -> None:
-    with open(f"{path}.part", "w", encoding="ascii") as made:
-        made.write(f"{place.inode} {place.read}\n")
-    os.replace(f"{path}.part", path)
+    put_whole(path, f"{place.inode} {place.read}\n")
 
 
 def place_of(log: BinaryIO) -> Place:

@@ -5,6 +5,7 @@ one that does not share its slips."""
 from __future__ import annotations
 
 import re
+import urllib.parse
 from typing import NamedTuple, Optional
 
 MOST_NAME, MOST_VERSION, MOST_FILE_NAME = 128, 64, 255
@@ -62,3 +63,8 @@ def read_file_name(text: str) -> Optional[FileName]:
     if not found or not is_name(found[1]) or not is_version(found[2]):
         return None
     return FileName(found[1], found[2], is_wheel)
+
+
+def file_path(project: str, file: str) -> str:
+    """The path of a file on the index, of a project by its normal form."""
+    return f"/files/{project}/{urllib.parse.quote(file, safe='')}"

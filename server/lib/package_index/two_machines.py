@@ -2,9 +2,8 @@
 from __future__ import annotations
 
 import re
-import sys
 from contextlib import contextmanager
-from typing import Iterator, List, NamedTuple
+from typing import Iterator, NamedTuple
 
 from package_index.commands import run
 from package_index.ends import Interrupted, Refused, held, say
@@ -75,15 +74,6 @@ def step(*words: str, says: str) -> None:
     with held():
         run(*words)
         print(says, flush=True)
-
-
-def words_of(usage: str) -> List[str]:
-    """The words of the command line: a resource, `index` if none is given. Prints `usage` if they are others."""
-    words = sys.argv[1:]
-    if len(words) > 1 or words and words[0].startswith("-"):
-        print(usage)
-        sys.exit(0 if words in (["-h"], ["--help"]) else 2)
-    return words or ["index"]
 
 
 @contextmanager
