@@ -4,6 +4,7 @@ from __future__ import annotations
 import datetime
 import decimal
 import re
+import time
 
 from indexctl.ends import WRONG, Stop
 
@@ -52,7 +53,7 @@ def iso(seconds: int) -> str:
 
 
 def moment_now() -> str:
-    return datetime.datetime.now(datetime.timezone.utc).strftime("%Y-%m-%dT%H:%M:%SZ")
+    return iso(int(time.time()))
 
 
 def read_moment(text: str) -> int:

@@ -11,6 +11,7 @@ from indexctl.changes import Desk
 from indexctl.command_line import argument, command
 from indexctl.commands.arguments import JSON, NAME, YES
 from indexctl.commands.listings import held
+from indexctl.commands.names import change_name
 from indexctl.ends import REFUSED, WRONG, Stop
 from indexctl.names import check_names
 from indexctl.probe import open_cases
@@ -71,10 +72,8 @@ def case_open(args: argparse.Namespace) -> int:
         size = len(text.encode("utf-8", "surrogateescape"))
         if not 1 <= size <= MOST_TEXT:
             raise Stop(WRONG, f"A text of a case has 1 to {MOST_TEXT} bytes, and {text[:60]!r} has {size}.")
-    desk = Desk(args)
-    desk.change(f"case of {args.name}: open", do="open_case", name=args.name, kind=args.kind, contact=args.contact,
-                work=args.work, why=args.why)
-    return desk.status()
+    return change_name(args, f"case of {args.name}: open", do="open_case", kind=args.kind, contact=args.contact,
+                       work=args.work, why=args.why)
 
 
 @command("case attempt", "records an attempt to reach the owner (office)", NAME,
@@ -82,27 +81,18 @@ def case_open(args: argparse.Namespace) -> int:
          argument("--not-sent", action="store_true", help="the owner has left no address of this kind"))
 def case_attempt(args: argparse.Namespace) -> int:
     """Each counts from now on, and the same again is a second attempt. It is sent to the index once."""
-    check_names(args.name)
-    desk = Desk(args)
-    desk.change(f"case of {args.name}: attempt by {args.means}{', not sent' if args.not_sent else ''}",
-                do="record_attempt", name=args.name, means=args.means, sent=not args.not_sent)
-    return desk.status()
+    what = f"case of {args.name}: attempt by {args.means}{', not sent' if args.not_sent else ''}"
+    return change_name(args, what, do="record_attempt", means=args.means, sent=not args.not_sent)
 
 
 @command("case answer", "ends a case as an owner", NAME)
 def case_answer(args: argparse.Namespace) -> int:
-    check_names(args.name)
-    desk = Desk(args)
-    desk.change(f"case of {args.name}: answer", do="answer_case", name=args.name)
-    return desk.status()
+    return change_name(args, f"case of {args.name}: answer", do="answer_case")
 
 
 @command("case close", "closes a case, as the office or its candidate", NAME)
 def case_close(args: argparse.Namespace) -> int:
-    check_names(args.name)
-    desk = Desk(args)
-    desk.change(f"case of {args.name}: close", do="close_case", name=args.name)
-    return desk.status()
+    return change_name(args, f"case of {args.name}: close", do="close_case")
 
 
 @command("case transfer", "passes a name to the candidate of its case (office)", NAME,

@@ -9,6 +9,7 @@ from indexctl.changes import Desk
 from indexctl.command_line import argument, command
 from indexctl.commands.arguments import FILES, NAME, RELEASE, YES
 from indexctl.commands.cached import tell_uncache
+from indexctl.commands.names import change_name
 from indexctl.contents import FileRow, find_contents, releases_of
 from indexctl.ends import WRONG, Stop
 from indexctl.names import check_names, project_of
@@ -95,7 +96,4 @@ def tell_release(index: Index, name: str, release: str) -> str:
 
 @command("release unyank", "takes the mark off a release", NAME, RELEASE)
 def release_unyank(args: argparse.Namespace) -> int:
-    check_names(args.name)
-    desk = Desk(args)
-    desk.change(f"unyank {args.name} {args.release}", do="unyank", name=args.name, release=args.release)
-    return desk.status()
+    return change_name(args, f"unyank {args.name} {args.release}", do="unyank", release=args.release)

@@ -24,6 +24,14 @@ def each_name(args: argparse.Namespace, do: str) -> int:
     return desk.status()
 
 
+def change_name(args: argparse.Namespace, what: str, do: str, **row: object) -> int:
+    """One change of the name that the command line has."""
+    check_names(args.name)
+    desk = Desk(args)
+    desk.change_by(what, {"do": do, "name": args.name, **row})
+    return desk.status()
+
+
 @command("name claim", "claims names that nobody holds", NAMES)
 def name_claim(args: argparse.Namespace) -> int:
     return each_name(args, "claim")
