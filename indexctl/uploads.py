@@ -30,7 +30,8 @@ def metadata(path: str) -> email.message.Message:
             if len(found) == 1:
                 text = wheel.read(found[0])
     else:
-        with tarfile.open(path) as archive:
+        # pip takes no other compression of it
+        with tarfile.open(path, "r:gz") as archive:
             inside = [it.name for it in archive.getmembers() if it.isfile()]
             found = [it for it in inside if re.fullmatch(r"(\./)?[^/]+/PKG-INFO", it)]
             if len(found) == 1:
@@ -93,16 +94,23 @@ def files_in(folder: str) -> List[str]:
     return taken
 
 
+def read_file(path: str) -> File:
+    """A file that was read and checked. What a damaged archive raises depends on how it is compressed."""
+    try:
+        return File(path)
+    except Stop:
+        raise
+    except Exception as end:
+        raise Stop(WRONG, f"{path}: it can't be read: {getattr(end, 'strerror', None) or end}") from end
+
+
 def files_of(paths: Sequence[str]) -> List[File]:
     """The files of these paths, wheels first. Nothing has gone out as long as this can fail."""
     for path in paths:
         if not os.path.exists(path):
             raise Stop(WRONG, f"{path}: there is no such file or folder.")
-    try:
-        found = [it for path in paths for it in (files_in(path) if os.path.isdir(path) else [path])]
-        return sorted((File(path) for path in found), key=lambda it: (not it.is_wheel, it.name))
-    except (OSError, zipfile.BadZipFile, tarfile.TarError, EOFError, UnicodeDecodeError, KeyError) as end:
-        raise Stop(WRONG, f"A file can't be read: {end}") from end
+    found = [it for path in paths for it in (files_in(path) if os.path.isdir(path) else [path])]
+    return sorted(map(read_file, found), key=lambda it: (not it.is_wheel, it.name))
 
 
 def upload_file(desk: Desk, file: File, claims: bool) -> bool:

@@ -7,7 +7,6 @@ import io
 import re
 import urllib.parse
 import zipfile
-import zlib
 from dataclasses import dataclass
 from typing import Any, Dict, Iterator, Optional, Tuple
 
@@ -35,8 +34,9 @@ def read_about(wheel: bytes) -> About:
             with archive.open(name) as inside:
                 # a small archive can hold a text of any length
                 text = inside.read(MOST_METADATA).decode("utf-8", "replace")
-    except (zipfile.BadZipFile, zlib.error, StopIteration, OSError, EOFError, RuntimeError, ValueError):
-        # RuntimeError: the file is encrypted, or compressed in a way that this Python does not know
+    except Exception:
+        # what a damaged archive raises depends on how it is compressed, and the pages of all projects are written by
+        # the same run
         return NOTHING
     return about_of(email.parser.HeaderParser().parsestr(text))
 

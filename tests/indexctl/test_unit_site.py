@@ -116,13 +116,17 @@ ENCRYPTED[GOOD.index(b"PK\1\2") + 8] |= 1
 ENCRYPTED[6] |= 1
 SPOILT = bytearray(GOOD)
 SPOILT[GOOD.index(METADATA.encode()) + len(METADATA) + 3] ^= 0xff
+# behind the nine bytes that say how it is compressed
+SPOILT_LZMA = bytearray(archive_of(METADATA, b"Summary: x\n" * 50, zipfile.ZIP_LZMA))
+SPOILT_LZMA[SPOILT_LZMA.index(METADATA.encode()) + len(METADATA) + 9] ^= 0xff
 
 
 @pytest.mark.parametrize("body", [b"", b"no archive", archive_of("METADATA", b"Summary: x\n"),
                                   archive_of("a/frob.dist-info/METADATA", b"Summary: x\n"),
                                   archive_of("frob.dist-info/METADATA.txt", b"Summary: x\n"), bytes(ENCRYPTED),
-                                  bytes(SPOILT), GOOD[:-30]],
-                         ids=["empty", "text", "outside", "deeper", "longer", "encrypted", "spoilt", "cut"])
+                                  bytes(SPOILT), bytes(SPOILT_LZMA), GOOD[:-30]],
+                         ids=["empty", "text", "outside", "deeper", "longer", "encrypted", "spoilt", "spoilt LZMA",
+                              "cut"])
 def test_a_wheel_that_can_t_be_read_says_nothing(body):
     assert about.read_about(body) == about.NOTHING
 

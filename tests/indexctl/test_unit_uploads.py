@@ -4,6 +4,7 @@ from __future__ import annotations
 import hashlib
 import io
 import os
+import re
 import tarfile
 import zipfile
 
@@ -159,16 +160,42 @@ def test_wheels_go_first_and_then_by_name(tmp_path):
 def test_a_file_that_is_no_archive_is_told(tmp_path, name, data):
     if data is not None:
         (tmp_path / name).write_bytes(data)
-    said = "there is no such file or folder" if data is None else "^A file can't be read: "
-    with pytest.raises(Stop, match=said) as end:
-        uploads.files_of([str(tmp_path / name)])
+    path = str(tmp_path / name)
+    said = "there is no such file or folder" if data is None else "it can't be read: "
+    with pytest.raises(Stop, match=f"^{re.escape(path)}: {said}") as end:
+        uploads.files_of([path])
     assert end.value.status == WRONG
 
 
 def test_metadata_that_is_no_text_is_told(tmp_path):
     with zipfile.ZipFile(tmp_path / "frob-1.0-py3-none-any.whl", "w") as made:
         made.writestr("frob-1.0.dist-info/METADATA", b"\xff")
-    with pytest.raises(Stop, match="^A file can't be read: "):
+    with pytest.raises(Stop, match="frob-1.0-py3-none-any.whl: it can't be read: "):
+        uploads.files_of([str(tmp_path)])
+
+
+@pytest.mark.parametrize("compression", [zipfile.ZIP_DEFLATED, zipfile.ZIP_BZIP2, zipfile.ZIP_LZMA])
+def test_of_several_files_the_damaged_one_is_named(tmp_path, compression):
+    wheel(tmp_path)
+    inside, damaged = "frob-1.1.dist-info/METADATA", tmp_path / "frob-1.1-py3-none-any.whl"
+    with zipfile.ZipFile(damaged, "w", compression) as made:
+        made.writestr(inside, TEXT * 50)
+    data = bytearray(damaged.read_bytes())
+    data[len(inside) + 42] ^= 0xff
+    damaged.write_bytes(data)
+    with pytest.raises(Stop, match=f"^{re.escape(str(damaged))}: it can't be read: ") as end:
+        uploads.files_of([str(tmp_path)])
+    assert end.value.status == WRONG
+
+
+@pytest.mark.parametrize("mode", ["w", "w:bz2", "w:xz"])
+def test_a_source_archive_that_is_not_compressed_by_gzip_is_refused(tmp_path, mode):
+    """pip would not open it, and its name would be bound to these bytes for good."""
+    with tarfile.open(tmp_path / "frob-1.0.tar.gz", mode) as made:
+        entry = tarfile.TarInfo("frob-1.0/PKG-INFO")
+        entry.size = len(TEXT)
+        made.addfile(entry, io.BytesIO(TEXT.encode()))
+    with pytest.raises(Stop, match="frob-1.0.tar.gz: it can't be read: not a gzip file"):
         uploads.files_of([str(tmp_path)])
 
 
