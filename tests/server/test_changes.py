@@ -7,6 +7,7 @@ import re
 import pytest
 from support.running import run_command
 from support.server.front import Front, kept
+from support.server.gone import ask_and_go
 from support.server.waits import wait_for
 from support.serving import accepted, sha256
 
@@ -96,3 +97,9 @@ class TestReader:
         ("/legacy/", "right", "")])
     def test_a_name_is_that_of_a_right_password(self, locked, path, password, user):
         assert self.user_of(locked, "PUT" if "files" in path else "POST", path, password) == user
+
+
+def test_a_change_whose_client_is_gone_is_logged_as_the_index_answered_it(front, kept_index):
+    ask_and_go(front, kept_index, "POST", "/requests", b'{"do":"claim","name":"gone"}')
+    assert [it["status"] for it in front.changes()] == [200]
+    assert b'"held"' in front.ask("GET", "/names/gone")[2]

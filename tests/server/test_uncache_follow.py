@@ -10,6 +10,7 @@ from support.places import BIN, SERVER
 from support.programs import program_of
 from support.running import run_command
 from support.server.expected import assert_ends, assert_reply
+from support.server.gone import ask_and_go
 from support.server.manager import reopen
 from support.server.pasted import block
 from support.server.waits import wait_for
@@ -65,6 +66,15 @@ def test_a_ban_a_delete_and_a_prohibition_take_files_out(cached):
         assert not is_gone(cached, FILES[2])
         accepted(cached.request(do="prohibit", name="frob"))
         wait_until_gone(cached, FILES[2])
+
+
+def test_what_a_client_asked_for_that_is_gone_is_taken_out_too(cached, kept_index):
+    with following(cached):
+        ask_and_go(cached, kept_index, "DELETE", address(FILES[0]))
+        wait_until_gone(cached, FILES[0])
+        assert not is_gone(cached, FILES[1])
+        ask_and_go(cached, kept_index, "POST", "/requests", b'{"do":"ban_file","file":"%s"}' % FILES[1].encode())
+        wait_until_gone(cached, FILES[1])
 
 
 def test_without_it_nginx_keeps_what_is_banned(cached):
