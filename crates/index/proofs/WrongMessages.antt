@@ -17,7 +17,7 @@ use Rattle.index_message.specs.declared.message.Message.{Message}
 use Rattle.index_message.specs.declared.message.Message.TheVariants.{Faulty, Whole}
 use Rattle.index_message.specs.declared.request.Asked.{Asked}
 use Rattle.index_message.proofs.MessageLemmas.{at_most_one}
-use Rattle.index_http.specs.PagePasses.{MeasuresProject}
+use Rattle.index_http.specs.PagePasses.{MeasuresPage}
 use Rattle.index_http.specs.Shows.{GivesMessage, asks_page, is_look}
 use Rattle.index_http.specs.declared.end.IoEnd.{IoEnd}
 use Rattle.index_http.specs.declared.end.IoEnd.TheVariants as io_end
@@ -119,18 +119,20 @@ module _ {S K : Type 0} (g : Ghosts S) (out : Outs K) (old new : S) (before afte
 
   pub refutes_passes : RefutesPasses g out old new before after
   refutes_passes = record {
-    root = λ page count other it. let measured = it.measured was clean in other measured.0;
+    size = λ page_of page count is other it.
+        let measured = it.measured was clean in
+        let there = subst (λ (page : Option Bytes). MeasuresPage page (g.failures old) (g.failures new) (Ok (Some count))) is measured in
+        other there.0;
     none = λ page_of count none it.
         let measured = it.measured was clean in
-        let no = subst (λ (page : Option Bytes). MeasuresProject page (g.failures old) (g.failures new) (Ok (Some count))) none measured in
+        let no = subst (λ (page : Option Bytes). MeasuresPage page (g.failures old) (g.failures new) (Ok (Some count))) none measured in
         let some : Some count ≡ None = no in
         absurd (cc some);
     some = λ page_of page is it.
         let measured = it.measured was clean in
-        let no = subst (λ (page : Option Bytes). MeasuresProject page (g.failures old) (g.failures new) (Ok None)) is measured in
+        let no = subst (λ (page : Option Bytes). MeasuresPage page (g.failures old) (g.failures new) (Ok None)) is measured in
         absurd no;
-    memory = λ page failed it. failed (it.stores refl);
-    none_memory = λ page_of failed it. failed (it.stores refl);
+    memory = λ page_of failed it. failed (it.stores refl);
     text = λ page_of page is missing it. missing (it.sent was clean page is);
     sent = λ page_of is it. no_end (io_end.Cut 0) (Ok tt) refl (it.none was clean is).1;
     silent = λ page_of it. no_truth it.told;

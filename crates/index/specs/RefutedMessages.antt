@@ -14,7 +14,7 @@ use Rattle.index_message.specs.declared.message.Message.TheVariants.{Whole}
 use Rattle.index_http.specs.Asks.{AsksDesk}
 use Rattle.index_http.specs.Ends.{DeskRepliesByHistory, DeskRepliesByTables}
 use Rattle.index_http.specs.Exchanges.{InputGetsText, refusal_reply, store_reply}
-use Rattle.index_http.specs.PagePasses.{MeasuresPage, MeasuresPass, MeasuresText, SendsPage}
+use Rattle.index_http.specs.PagePasses.{MeasuresText, SendsPage}
 use Rattle.index_http.specs.PageShows.{PageShown}
 use Rattle.index_http.specs.Replies.{Reply, reply_text}
 use Rattle.index_http.specs.Shows.{GivesMessage, LookFails, asks_page, is_look}
@@ -75,9 +75,10 @@ pub record RefutesInput {S K : Type 0} (g : Ghosts S) (out : Outs K) (old new : 
 -- no pass over the rows of a page counts another length, sends another text or changes a table
 pub record RefutesPasses {S K : Type 0} (g : Ghosts S) (out : Outs K) (old new : S)
     (before after : K) : Type 0 where
-  -- another length of the root page
-  pub root : (page : Tables → Bytes) (count : ℕ) → (¬ (count ≡ length (page (g.tables old))))
-      → ¬ MeasuresPass g old new (Ok count) (λ T. MeasuresPage (page T))
+  -- another length of a page
+  pub size : (page_of : Tables → Option Bytes) (page : Bytes) (count : ℕ)
+      → page_of (g.tables old) ≡ Some page → (¬ (count ≡ length page))
+      → ¬ MeasuresText g old new (Ok (Some count)) page_of
   -- a length of a page that is not there
   pub none : (page_of : Tables → Option Bytes) (count : ℕ) → page_of (g.tables old) ≡ None
       → ¬ MeasuresText g old new (Ok (Some count)) page_of
@@ -85,9 +86,7 @@ pub record RefutesPasses {S K : Type 0} (g : Ghosts S) (out : Outs K) (old new :
   pub some : (page_of : Tables → Option Bytes) (page : Bytes) → page_of (g.tables old) ≡ Some page
       → ¬ MeasuresText g old new (Ok None) page_of
   -- the store failed, but the pass says that memory ran out
-  pub memory : (page : Tables → Bytes) → (¬ (g.stores new ≡ g.stores old))
-      → ¬ MeasuresPass {X = ℕ} g old new (Err fault.OutOfMemory) (λ T. MeasuresPage (page T))
-  pub none_memory : (page_of : Tables → Option Bytes) → (¬ (g.stores new ≡ g.stores old))
+  pub memory : (page_of : Tables → Option Bytes) → (¬ (g.stores new ≡ g.stores old))
       → ¬ MeasuresText g old new (Err fault.OutOfMemory) page_of
   -- a page was not sent
   pub text : (page_of : Tables → Option Bytes) (page : Bytes) → page_of (g.tables old) ≡ Some page

@@ -20,8 +20,8 @@ WalkFindsNoName (Ok found) = found ≡ false
 WalkFindsNoName (Err end) = is_fault end ≡ true
 
 -- A walk over the rows of a project returns whether the name is held. If not, no row is taken.
-abbrev pub WalksProject : {K : Type 0} → (K → FileRow → K → Type 0) → (K → FileRow → K → Type 0)
-    → Option (List FileRow) → K → K → Result Bool WalkEnd → Type 0
+abbrev pub WalksProject : {K R : Type 0} → (K → R → K → Type 0) → (K → R → K → Type 0)
+    → Option (List R) → K → K → Result Bool WalkEnd → Type 0
 WalksProject takes stops None before after result = (after ≡ before) × WalkFindsNoName result
 WalksProject takes stops (Some rows) before after result =
     Walks takes stops rows before after result × IfOk result (λ found. found ≡ true)

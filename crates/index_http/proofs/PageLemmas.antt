@@ -10,7 +10,7 @@ use Rattle.index_rules.specs.declared.answer.Fault.TheVariants as fault
 use Rattle.index_pages.specs.Ends.{most_bytes}
 use Rattle.index_pages.specs.declared.served.Served.{Served}
 use Rattle.index_http.specs.Exchanges.{store_reply}
-use Rattle.index_http.specs.PagePasses.{IsMeasured, MeasuresProject}
+use Rattle.index_http.specs.PagePasses.{IsMeasured, MeasuresPage}
 use Rattle.index_http.specs.PageShows.{PageShown, after_head}
 use Rattle.index_http.specs.Replies.{page_reply}
 use Rattle.index_http.specs.Sends.{SendsFirstBytes, SendsLessThanText, SendsText}
@@ -19,7 +19,7 @@ use Rattle.index_http.specs.declared.end.IoEnd.TheVariants.{ReadFault, OutOfMemo
 
 -- ---- the length of a page
 
-pub measured : (page : Option Bytes) (before after count : ℕ) → MeasuresProject page before after (Ok (Some count)) → IsMeasured page count
+pub measured : (page : Option Bytes) (before after count : ℕ) → MeasuresPage page before after (Ok (Some count)) → IsMeasured page count
 measured None before after count is = absurd (some_is_none count is)
   where
     some_is_none : (n : ℕ) → Some n ≡ None → ⊥
@@ -29,12 +29,12 @@ measured (Some bytes) before after count (size, within) = record { bytes = bytes
 pub shows_measured : (served : Served) (page : Option Bytes) (count : ℕ) (there : IsMeasured page count) → PageShown served page (page_reply served there.bytes)
 shows_measured served page count there = subst (λ o. PageShown served o (page_reply served there.bytes)) (sym there.is) (inl refl)
 
-pub unmeasured : (page : Option Bytes) (before after : ℕ) → MeasuresProject page before after (Ok None) → page ≡ None
+pub unmeasured : (page : Option Bytes) (before after : ℕ) → MeasuresPage page before after (Ok None) → page ≡ None
 unmeasured None before after is = refl
 unmeasured (Some bytes) before after is = absurd is
 
 -- a page whose length could not be told is too long, or the books failed
-pub unmeasurable : (served : Served) (page : Option Bytes) (old new : ℕ) → MeasuresProject page old new (Err fault.Store)
+pub unmeasurable : (served : Served) (page : Option Bytes) (old new : ℕ) → MeasuresPage page old new (Err fault.Store)
     → PageShown served page store_reply ⊎ HasFailed old new
 unmeasurable served None old new failed = inr failed
 unmeasurable served (Some page) old new (inl failed) = inr failed

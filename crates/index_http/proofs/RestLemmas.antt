@@ -11,14 +11,9 @@ use Rattle.index_rules.specs.declared.rows.FileRow.{FileRow}
 use Rattle.index_rules.specs.declared.rows.NameRow.{NameRow}
 use Rattle.index_pages.specs.Html.{bottom, file_anchor, name_anchor, project_top}
 use Rattle.index_pages.specs.Parts.{file_text, files_bottom, files_top, html_rest, json_rest, name_line, once, project_rest, root_bottom, root_rest, root_start, root_step}
-use Rattle.index_pages.specs.Rest.{Rest}
 use Rattle.index_pages.specs.Versions.{with_release, with_releases}
+use Rattle.index_http.specs.PagePasses.{IsOpen}
 use Rattle.index_pages.proofs.JsonLemmas.{file-members, json-next, name_text-is}
-
--- with this row more, no page begins with what it was without it
-pub record IsOpen {R : Type 0} (rest : Rest R) : Type 0 where
-  pub row : R
-  pub grows : (rows : List R) (left : Bytes) → rest (rows ++ row ∷ []) ≡ rest rows ++ left → ⊥
 
 -- ---- texts that differ early
 

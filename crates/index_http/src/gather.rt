@@ -1,56 +1,32 @@
 //! Texts of pages, gathered in one pass over their rows before they are sent.
-ghost use Rattle.std.specs.Prelude.{◌≡◌, ◌≤◌, ◌+◌, [], Some, None, length, max, min, true};
-ghost use Rattle.index_desk.specs.Pages.{text_in};
+ghost use Rattle.std.specs.Prelude.{◌≡◌, ◌≤◌, ◌+◌, [], length, max, min, true};
+ghost use Rattle.index_desk.specs.Pages.{page_in};
 ghost use Rattle.index_http.specs.PagePasses.{Gathers};
 ghost use Rattle.index_http.specs.declared.gather.TheConstants.{GATHERED_AT_LEAST, MOST_GATHERED};
 
-use crate::page_passes::without_stop;
-use index_desk::Desk;
+use crate::page_text::{TextEnd, write_page};
+use index_desk::{Desk, PageKey};
 use index_io::{Failed, Sink};
-use index_names::NormalName;
-use index_pages::{PageText, Served};
+use index_pages::Served;
 use index_rules::{Books, Fault};
 use std::alloc::Global;
 
-/// The text of the root page, or `None` if it is too long to be gathered or memory ran out. It changes no table.
-pub fn gathered_root<B: Books>(
+/// The text of a page, or `None` if it does not exist, is too long to be gathered, or memory ran out. It changes no
+/// table.
+pub fn gathered_text<B: Books>(
     alloc: Global,
     desk: &mut Desk<B>,
+    page: PageKey<'_>,
     served: Served,
     cache_size: usize,
 ) -> Result<Option<Vec<u8>>, Fault>
-    ensures { Gathers B.Books desk.old desk.new result (λ T. text_in T served None) }
+    ensures { Gathers B.Books desk.old desk.new result (λ T. page_in T served page.entry) }
 {
     let mut buffer = Buffer::new(alloc, cache_size);
-    let mut page = PageText::root(alloc, served, &mut buffer);
-    let walked = desk.walk_root(alloc, &mut page);
-    without_stop(walked, ())?;
-    match page.finish() {
-        Ok(_) => Ok(Some(buffer.bytes)),
-        Err(_) => Ok(None),
-    }
-}
-
-/// The text of a project's page, or `None` if the name is not held, the text is too long to be gathered, or memory ran
-/// out. It changes no table.
-pub fn gathered_project<B: Books>(
-    alloc: Global,
-    desk: &mut Desk<B>,
-    name: &NormalName,
-    served: Served,
-    cache_size: usize,
-) -> Result<Option<Vec<u8>>, Fault>
-    ensures { Gathers B.Books desk.old desk.new result (λ T. text_in T served (Some name.now)) }
-{
-    let mut buffer = Buffer::new(alloc, cache_size);
-    let mut page = PageText::project(alloc, name, served, &mut buffer);
-    let walked = desk.walk_project(alloc, name, &mut page);
-    if !without_stop(walked, true)? {
-        return Ok(None);
-    }
-    match page.finish() {
-        Ok(_) => Ok(Some(buffer.bytes)),
-        Err(_) => Ok(None),
+    match write_page(alloc, &mut buffer, desk, page, served) {
+        Ok(Some(_)) => Ok(Some(buffer.bytes)),
+        Ok(None) | Err(TextEnd::Page(_)) => Ok(None),
+        Err(TextEnd::Walk(fault, _)) => Err(fault),
     }
 }
 

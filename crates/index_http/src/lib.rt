@@ -8,6 +8,7 @@ mod gather;
 mod get;
 mod page_passes;
 mod page_replies;
+mod page_text;
 mod reply;
 mod send;
 

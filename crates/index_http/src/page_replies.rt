@@ -1,8 +1,8 @@
 //! Replies with a page. Their head has the page's length, so that is known before the text is sent.
-ghost use Rattle.std.specs.Prelude.{◌≡◌, ◌⊎◌, None, true, false, not};
+ghost use Rattle.std.specs.Prelude.{◌≡◌, ◌⊎◌, false, not};
 ghost use Rattle.index_desk.specs.Looks.{LeavesTables};
 ghost use Rattle.index_desk.specs.Pages.{page_in};
-ghost use Rattle.index_http.specs.PagePasses.{Gathers, IsMeasured, MeasuresText, SendsPage};
+ghost use Rattle.index_http.specs.PagePasses.{IsMeasured};
 ghost use Rattle.index_http.specs.PageShows.{PageShown, after_head};
 ghost use Rattle.index_http.specs.Replies.{page_reply, reply_text};
 ghost use Rattle.index_http.specs.Sends.{ReplyFailsOnly, SendsBytes, SendsLessThanText, is_cut, is_silent, is_write_fault};
@@ -10,16 +10,15 @@ ghost use Rattle.index_http.specs.Shows.{LookShows, look_at_page};
 ghost use Rattle.index_http.specs.Steps.{StaysHonest, at_desk, to_sink};
 
 use crate::end::IoEnd;
-use crate::gather::{gathered_project, gathered_root};
-use crate::page_passes::{project_length, project_text, root_length, root_text};
+use crate::gather::gathered_text;
+use crate::page_passes::{length_of, send_text};
 use crate::reply::{Fields, page_reply, refusal_reply};
 use crate::send::{send_fault, send_head, send_reply};
 use http::StatusCode;
 use index_desk::{CachesAnswers, Desk, PageKey};
 use index_io::Sink;
-use index_names::NormalName;
 use index_pages::Served;
-use index_rules::{Books, Fault, Refusal};
+use index_rules::{Books, Refusal};
 use std::alloc::Global;
 
 /// Replies with a page in a type, if it exists.
@@ -49,23 +48,6 @@ pub fn show_page<K: Sink, B: CachesAnswers>(
     }
 }
 
-/// The text of a page, or `None` if it does not exist, is too long to be gathered, or memory ran out. It changes no
-/// table.
-fn gathered_text<B: Books>(
-    alloc: Global,
-    desk: &mut Desk<B>,
-    page: PageKey<'_>,
-    served: Served,
-    cache_size: usize,
-) -> Result<Option<Vec<u8>>, Fault>
-    ensures { Gathers B.Books desk.old desk.new result (λ T. page_in T served page.entry) }
-{
-    match page {
-        PageKey::Root => gathered_root(alloc, desk, served, cache_size),
-        PageKey::Project(name) => gathered_project(alloc, desk, name, served, cache_size),
-    }
-}
-
 /// Replies with a page in a type, if it exists: a first pass over its rows counts its bytes, and a second sends them.
 fn show_in_passes<K: Sink, B: Books>(
     alloc: Global,
@@ -82,21 +64,6 @@ fn show_in_passes<K: Sink, B: Books>(
         Ok(Some(size)) => send_page(alloc, sink, desk, is_head, page, served, size),
         Ok(None) => send_reply(sink, is_head, refusal_reply(Refusal::NoProject)),
         Err(fault) => send_fault(sink, is_head, fault),
-    }
-}
-
-/// The length of a page, or `None` if it does not exist. It changes no table.
-fn length_of<B: Books>(
-    alloc: Global,
-    desk: &mut Desk<B>,
-    page: PageKey<'_>,
-    served: Served,
-) -> Result<Option<u64>, Fault>
-    ensures { MeasuresText B.Books desk.old desk.new result (λ T. page_in T served page.entry) }
-{
-    match page {
-        PageKey::Root => Ok(Some(root_length(alloc, desk, served)?)),
-        PageKey::Project(name) => project_length(alloc, desk, name, served),
     }
 }
 
@@ -131,23 +98,6 @@ fn send_page<K: Sink, B: Books>(
         return Ok(());
     }
     after_head(head, send_text(alloc, sink, desk, page, served))
-}
-
-/// Sends the text of a page. It fails with `WriteFault` or `Cut`. It changes no table.
-fn send_text<K: Sink, B: Books>(
-    alloc: Global,
-    sink: &mut K,
-    desk: &mut Desk<B>,
-    page: PageKey<'_>,
-    served: Served,
-) -> Result<(), IoEnd>
-    ensures { SendsPage (λ T. page_in T served page.entry)
-        (at_desk B.Books desk.old desk.new) (to_sink K.Sink sink.old sink.new) result }
-{
-    match page {
-        PageKey::Root => root_text(alloc, desk, sink, served),
-        PageKey::Project(name) => project_text(alloc, desk, sink, name, served),
-    }
 }
 
 /// The end of a reply, from the end of its body. `head` is the number of bytes that were sent before the body.

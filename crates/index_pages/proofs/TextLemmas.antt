@@ -204,7 +204,8 @@ pub page_stops : {R : Type 0} (now : TextState R) (after : SinkState) (result : 
     → ((end : PageEnd) → now.end ≡ Some end → (result ≡ Err end) × (after ≡ now.sink))
     → (start : TextState R) (rows : List R) → IsFresh start → StoppedAt RowTextIsTaken StopsText rows start now
     → (end : PageEnd) × (result ≡ Err end) × IsFront start.rest rows start.sink.contents after.contents (count_of end)
+    × ((more : List R) → StoreOnlyIfTooLong end (length (start.rest (rows ++ more))))
 page_stops now after result ended start rows fresh h =
     let broken = broken_of rows start now fresh h in
     let how = ended broken.end broken.is in
-    (broken.end, how.0, rw (how.1, broken.count) broken.front)
+    (broken.end, how.0, rw (how.1, broken.count) broken.front, broken.past)

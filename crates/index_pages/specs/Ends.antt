@@ -4,7 +4,6 @@ use Rattle.std.specs.Prelude.{◌≡◌, ◌≤◌}
 use Rattle.std.specs.Io.KnownBytes.{Appends}
 use Rattle.index_io.specs.Counts.{HasFailed}
 use Rattle.index_rules.specs.Maps.{Bytes}
-use Rattle.index_rules.specs.declared.answer.Fault.{Fault}
 use Rattle.index_pages.specs.Rest.{Rest, IsNext}
 use Rattle.index_pages.specs.declared.end.PageEnd.{PageEnd}
 use Rattle.index_pages.specs.declared.end.PageEnd.TheVariants.{OutOfMemory, Store, WriteFault}
@@ -95,8 +94,3 @@ pub record IsCut (page : Bytes) (before after : SinkState) (end : PageEnd) : Typ
 abbrev pub WritesPage : Bytes → SinkState → SinkState → Result ℕ PageEnd → Type 0
 WritesPage page before after (Ok count) = IsWhole page before after count
 WritesPage page before after (Err end) = IsCut page before after end
-
--- The length of the page, or why it has none. `Store` is returned only for a page that is too long.
-abbrev pub Measures : Bytes → Result ℕ Fault → Type 0
-Measures page (Ok count) = (count ≡ length page) × (count ≤ most_bytes)
-Measures page (Err fault) = fault ≡ Fault.Store → most_bytes < length page

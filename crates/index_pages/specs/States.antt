@@ -1,19 +1,14 @@
 -- The state of a page that is written row by row, as contracts see it.
-use Rattle.std.specs.Prelude.{Err, IsSome, List, None, Ok, Option, Result, Some, length, option_map}
-use Rattle.std.specs.Prelude.{ℕ, ◌++◌, ◌<◌, ◌≡◌}
+use Rattle.std.specs.Prelude.{Err, IsSome, List, None, Option, Result, Some, length, ℕ, ◌++◌, ◌≡◌}
 use Rattle.std.specs.Borrow.{MutBor}
 use Rattle.std.specs.Io.KnownBytes.{Appends}
 use Rattle.index_io.specs.declared.sink.Sink.{Ghosts}
 use Rattle.index_rules.specs.Maps.{Bytes}
 use Rattle.index_rules.specs.Rows.{StoppedAt, WasGiven}
-use Rattle.index_rules.specs.declared.answer.Fault.{Fault}
-use Rattle.index_rules.specs.declared.answer.Fault.TheVariants as fault
 use Rattle.index_pages.specs.Rest.{Rest, IsWholeOf}
-use Rattle.index_pages.specs.Ends.{Closes, SinkGetsRow, SinkGetsRowFront, SinkState, count_of}
-use Rattle.index_pages.specs.Ends.{Measures, WritesPage, most_bytes}
+use Rattle.index_pages.specs.Ends.{SinkGetsRow, SinkGetsRowFront, SinkState, StoreOnlyIfTooLong}
+use Rattle.index_pages.specs.Ends.{WritesPage, count_of}
 use Rattle.index_pages.specs.declared.end.PageEnd.{PageEnd}
-use Rattle.index_pages.specs.declared.end.PageEnd.TheVariants.{OutOfMemory, Store}
-use Rattle.index_pages.specs.declared.length.PageLength.{PageLength}
 use Rattle.index_pages.specs.declared.text.PageText.{PageText}
 
 -- the state of a sink: the bytes that it has, and the number of its failed writes
@@ -126,13 +121,15 @@ pub record CountsWritten {R : Type 0} (now : TextState R) (told : ℕ) : Type 0 
   pub front : IsWritten now
   pub steady : IsSteady now
 
--- if a row was not taken, the end is returned, and the bytes that were written begin the page
+-- If a row was not taken, the end is returned, and the bytes that were written begin the page.
+-- `Store` is returned only if every page that begins with these rows is too long.
 abbrev pub StopsPage : {R : Type 0} → TextState R → SinkState → Result ℕ PageEnd → Type 0
 StopsPage {R} now after result =
     (start : TextState R) (rows : List R) → IsFresh start
     → StoppedAt RowTextIsTaken StopsText rows start now
     → (end : PageEnd) × (result ≡ Err end)
     × IsFront start.rest rows start.sink.contents after.contents (count_of end)
+    × ((more : List R) → StoreOnlyIfTooLong end (length (start.rest (rows ++ more))))
 
 -- ---- pages that are written to a sink
 
@@ -177,77 +174,3 @@ abbrev pub PageEndsStopped : {K P R X : Type 0} → Ghosts K → (P → Bytes �
     → K → Result ℕ PageEnd → Type 0
 PageEndsStopped g rest page after result =
     StopsPage (page_state g rest page) (state_of g after) result
-
--- ---- pages whose length is counted
-
--- the sink of a page whose length alone is counted
-abbrev pub no_sink : SinkState
-no_sink = record { contents = None; failures = 0 }
-
--- the end for a fault after this many bytes
-abbrev pub end_at : ℕ → Fault → PageEnd
-end_at count fault.OutOfMemory = OutOfMemory count
-end_at count fault.Store = Store count
-
--- the end of a count after this many bytes, as the end of a page
-abbrev pub ended_at : ℕ → Result ℕ Fault → Result ℕ PageEnd
-ended_at count (Ok length) = Ok length
-ended_at count (Err fault) = Err (end_at count fault)
-
--- the state of a page whose length is counted, row by row
-abbrev pub length_state : {R : Type 0} → Rest R → ℕ → Option Fault → TextState R
-length_state rest length end = text_state rest no_sink length (option_map (end_at length) end)
-
--- the state of a count, by the text that its kind of page has to come
-abbrev pub count_state : {P X : Type 0} → (P → Bytes → Rest X) → PageLength P → TextState X
-count_state rest page = length_state (rest page.page page.name.now) page.length page.end
-
--- `PageWritesRow` a page that is counted
-abbrev pub CountSends : {P X : Type 0} → (P → Bytes → Rest X) → PageLength P → X → PageLength P
-    → ℕ → Type 0
-CountSends rest before row after =
-    PageWritesRow (count_state rest before) row (count_state rest after)
-
--- `CutsRowOf` a page that is counted
-abbrev pub CountCuts : {P X : Type 0} → (P → Bytes → Rest X) → PageLength P → X → PageLength P
-    → Fault → Type 0
-CountCuts rest before row after fault =
-    CutsRowOf (count_state rest before) row (count_state rest after) (end_at before.length fault)
-
--- `RowTextIsTaken` of a page that is counted
-abbrev pub CountTakes : {P X : Type 0} → (P → Bytes → Rest X) → PageLength P → X
-    → PageLength P → Type 0
-CountTakes rest before row after =
-    RowTextIsTaken (count_state rest before) row (count_state rest after)
-
--- `StopsText` of a page that is counted
-abbrev pub CountStops : {P X : Type 0} → (P → Bytes → Rest X) → PageLength P → X
-    → PageLength P → Type 0
-CountStops rest before row after = StopsText (count_state rest before) row (count_state rest after)
-
--- a text that follows the first bytes of a page was counted, or its first bytes
-abbrev pub Counts : Bytes → ℕ → Result ℕ Fault → Type 0
-Counts text length result = Closes text no_sink no_sink length (ended_at length result)
-
--- a count that had ended returns its fault
-abbrev pub CountStaysEnded : {P : Type 0} → PageLength P → Result ℕ Fault → Type 0
-CountStaysEnded page result = (end : Fault) → page.end ≡ Some end → result ≡ Err end
-
--- A count that has not begun. For any rows it is that of their whole page.
-pub record BeginsCount {P X : Type 0} (rest : P → Bytes → Rest X) (page : PageLength P)
-    (whole : Rest X) : Type 0 where
-  pub whole_page : IsWholeOf (count_state rest page).rest whole
-  pub fresh : IsFresh (count_state rest page)
-
--- the length of the page of the given rows
-abbrev pub MeasuresGivenRows : {R : Type 0} → TextState R → Result ℕ Fault → Type 0
-MeasuresGivenRows now result = AfterRows now (λ start rows. Measures (start.rest rows) result)
-
--- If a row was not taken there is no length. `Store` is returned only if every page that begins
--- with these rows is too long.
-abbrev pub StopsLength : {R : Type 0} → TextState R → Result ℕ Fault → Type 0
-StopsLength {R} now result =
-    (start : TextState R) (rows : List R) → IsFresh start
-    → StoppedAt RowTextIsTaken StopsText rows start now
-    → (end : Fault) × (result ≡ Err end)
-    × ((more : List R) → end ≡ fault.Store → most_bytes < length (start.rest (rows ++ more)))

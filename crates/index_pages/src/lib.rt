@@ -8,7 +8,6 @@ mod html;
 mod item;
 mod json_file;
 pub mod laws;
-mod length;
 mod page;
 mod pieces;
 mod project;
@@ -20,7 +19,6 @@ mod text;
 mod whole;
 
 pub use end::PageEnd;
-pub use length::PageLength;
 pub use page::Page;
 pub use pieces::Pieces;
 pub use project::ProjectPage;

@@ -1,4 +1,4 @@
-//! What a text is appended to, piece by piece: a buffer, or a count of its bytes.
+//! What a text is appended to, piece by piece.
 ghost use Rattle.std.specs.Prelude.{◌≡◌};
 ghost use Rattle.index_rules.specs.Maps.{Bytes};
 ghost use Rattle.index_pages.specs.Pieces.{Adds};
@@ -20,27 +20,5 @@ impl Pieces for Vec<u8> {
 
     fn put(&mut self, piece: &[u8]) -> Result<(), AllocError> {
         self.extend_from_slice(piece)
-    }
-}
-
-/// The number of a text's bytes. There is none for a text that no memory could hold.
-#[derive(Clone, Copy)]
-pub struct Count {
-    pub(crate) bytes: usize,
-}
-
-impl Pieces for Count {
-    ghost use Rattle.std.specs.Prelude.{◌≡◌, length};
-
-    ghost holds = { λ count text. count.bytes ≡ length text };
-
-    fn put(&mut self, piece: &[u8]) -> Result<(), AllocError> {
-        match self.bytes.checked_add(piece.len()) {
-            Some(bytes) => {
-                self.bytes = bytes;
-                Ok(())
-            }
-            None => Err(AllocError),
-        }
     }
 }

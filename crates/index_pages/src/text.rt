@@ -194,7 +194,7 @@ impl<K: Sink> FileTaker for PageText<'_, '_, K, ProjectPage, Vec<u8>> {
 }
 
 /// The sum, or `None` if no page may have this many bytes.
-pub(crate) fn total(length: u64, more: usize) -> Option<u64>
+fn total(length: u64, more: usize) -> Option<u64>
     ensures sum { IfSome result (λ sum. (sum ≡ length + more) × (sum ≤ most_bytes)) }
     ensures past { result ≡ None → most_bytes < length + more }
 {

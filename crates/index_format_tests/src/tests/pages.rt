@@ -2,7 +2,7 @@
 use index_digest::Digest256;
 use index_io::Output;
 use index_names::{FileName, NormalName, normal};
-use index_pages::{PageLength, PageText, Served, project_page, root_page};
+use index_pages::{PageText, Served, project_page, root_page};
 use index_rules::{FileRow, FileTaker, NameRecord, NameRow, NameTaker, Project};
 use index_text::Text;
 use std::alloc::AllocGlobal;
@@ -60,12 +60,9 @@ fn take_files<K: FileTaker>(rt: &impl Abort, taker: &mut K, rows: &[FileRow]) {
     }
 }
 
-/// The page of the names is this text: made whole, counted row by row, and written row by row.
+/// The page of the names is this text: made whole, and written row by row.
 fn assert_names(rt: &(impl Abort + AllocGlobal), rows: &[NameRow], served: Served, expected: &str) {
     assert_names_whole(rt, rows, served, expected);
-    let mut length = PageLength::root(served);
-    take_names(rt, &mut length, rows);
-    assert_eq!(rt; length.finish(), Ok(expected.len() as u64));
     assert_names_written(rt, rows, served, expected);
 }
 
@@ -92,7 +89,7 @@ fn assert_names_written(
     assert_eq!(rt; output.writer.as_slice(), expected.as_bytes());
 }
 
-/// The page of a project with these files is this text: made whole, counted row by row, and written row by row.
+/// The page of a project with these files is this text: made whole, and written row by row.
 fn assert_files(
     rt: &(impl Abort + AllocGlobal),
     project: &NormalName,
@@ -101,9 +98,6 @@ fn assert_files(
     expected: &str,
 ) {
     assert_files_whole(rt, project, rows, served, expected);
-    let mut length = PageLength::project(rt.alloc(), project, served);
-    take_files(rt, &mut length, rows);
-    assert_eq!(rt; length.finish(), Ok(expected.len() as u64));
     assert_files_written(rt, project, rows, served, expected);
 }
 

@@ -2,7 +2,7 @@ use Rattle.std.proofs.Common.{◌≡◌, ◌∙◌, ap, false, inl, inr, refl, r
 use Rattle.std.specs.Prelude.{is_err}
 use Rattle.index_desk.specs.Pages.{page_in}
 use Rattle.index_http.specs.Replies.{page_reply}
-use Rattle.index_http.specs.PagePasses.{MeasuresProject}
+use Rattle.index_http.specs.PagePasses.{MeasuresPage}
 use Rattle.index_http.proofs.EndLemmas.{fault_ends, fault_memory, sent_memory, shown_ends}
 use Rattle.index_http.proofs.Failures.{less_shows, look_failed}
 use Rattle.index_http.proofs.PageLemmas.{measured, shows_measured, unmeasurable, unmeasured}
@@ -13,7 +13,7 @@ returns-in-Ok-Some g c = record {
   shown = λ honest clean.
       let then = c.send_page.ensures.leaves.clean clean in
       let there = measured _ _ _ _
-      (subst (λ o. MeasuresProject (page_in (g.B.Books.tables c.args.desk.now) c.args.served c.args.page) (g.B.Books.failures c.args.desk.now) (g.B.Books.failures c.length_of.new.desk) (Ok o))
+      (subst (λ o. MeasuresPage (page_in (g.B.Books.tables c.args.desk.now) c.args.served c.args.page) (g.B.Books.failures c.args.desk.now) (g.B.Books.failures c.length_of.new.desk) (Ok o))
       c.in-Ok-Some.field-0-is (c.in-Ok-Some.ensures.measured honest then)) in
       let right : is_err c.length_of.result ≡ false = search rules in
       let after = c.length_of.ensures.keeps.lasts right honest then in
@@ -26,7 +26,7 @@ returns-in-Ok-Some g c = record {
   lasts = λ honest clean.
       let then = c.send_page.ensures.leaves.clean clean in
       let there = measured _ _ _ _
-      (subst (λ o. MeasuresProject (page_in (g.B.Books.tables c.args.desk.now) c.args.served c.args.page) (g.B.Books.failures c.args.desk.now) (g.B.Books.failures c.length_of.new.desk) (Ok o))
+      (subst (λ o. MeasuresPage (page_in (g.B.Books.tables c.args.desk.now) c.args.served c.args.page) (g.B.Books.failures c.args.desk.now) (g.B.Books.failures c.length_of.new.desk) (Ok o))
       c.in-Ok-Some.field-0-is (c.in-Ok-Some.ensures.measured honest then)) in
       let right : is_err c.length_of.result ≡ false = search rules in
       let after = c.length_of.ensures.keeps.lasts right honest then in
