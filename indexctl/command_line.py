@@ -13,7 +13,7 @@ from indexctl.near import MOST_SHOWN, is_near
 
 Run = Callable[[argparse.Namespace], Optional[int]]
 # of a line of help, however wide the terminal is
-MOST_COLUMNS = 118
+LEAST_COLUMNS, MOST_COLUMNS = 20, 118
 
 
 @dataclass(frozen=True)
@@ -86,8 +86,8 @@ def sentence(summary: str) -> str:
 
 
 def columns() -> int:
-    """How wide help is: as argparse has it, but no wider than what one can read."""
-    return min(MOST_COLUMNS, shutil.get_terminal_size().columns - 2)
+    """How wide help is: as argparse has it, but no wider than what one can read, and no narrower than a word."""
+    return max(LEAST_COLUMNS, min(MOST_COLUMNS, shutil.get_terminal_size().columns - 2))
 
 
 def wrapped(text: str) -> str:

@@ -36,7 +36,8 @@ def read_secret(path: str, what: str) -> str:
     """The one line of a file that nobody else may read."""
     path = os.path.expanduser(path)
     try:
-        with open(path, encoding="ascii") as kept:
+        # an editor of Windows may put a mark before the text
+        with open(path, encoding="utf-8-sig") as kept:
             mode, text = os.fstat(kept.fileno()).st_mode, kept.read(MOST_SECRET + 1).strip()
     except (OSError, UnicodeDecodeError) as end:
         raise Stop(WRONG, f"{what}: {path} can't be read: {getattr(end, 'strerror', end)}") from end
@@ -59,7 +60,7 @@ def netrc_of(host: str) -> Tuple[str, str, str]:
         found = netrc.netrc().hosts.get(host)
     except FileNotFoundError:
         found = None
-    except (netrc.NetrcParseError, OSError) as end:
+    except (netrc.NetrcParseError, OSError, UnicodeDecodeError) as end:
         raise Stop(WRONG, f"~/.netrc can't be used: {end}") from end
     login, account, password = found or ("", "", "")
     return login or "", account or "", password or ""
@@ -133,7 +134,7 @@ def read_profiles() -> Dict[str, Dict[str, str]]:
     """The profiles of ~/.config/indexctl.ini by name."""
     found = configparser.ConfigParser(interpolation=None, default_section="")
     try:
-        found.read(os.path.expanduser(PROFILES), encoding="utf-8")
+        found.read(os.path.expanduser(PROFILES), encoding="utf-8-sig")
     except (configparser.Error, UnicodeDecodeError, OSError) as end:
         raise Stop(WRONG, f"{PROFILES} can't be read: {end}") from end
     for name in found.sections():

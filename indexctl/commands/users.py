@@ -34,6 +34,12 @@ def give_token(desk: Desk, what: str, row: Row, token: Optional[str]) -> None:
     except Stop as end:
         lost = f" If it was done, its token is lost: use `indexctl user rotate {row['user']}`." if token else ""
         raise Stop(end.status, f"{end}{lost if end.status == UNREACHED else ''}") from end
+    except OSError:
+        # as if what reads the output is gone, or the disk of its file is full
+        if token:
+            note(f"{row['user']}'s token could not be printed, and is lost: use `indexctl user rotate {row['user']}`.",
+                 "red")
+        raise
 
 
 @command("user add", "adds users; each gets a new token, which is printed once (office)", USERS,

@@ -109,6 +109,19 @@ def test_a_token_that_may_be_lost_is_told(run, monkeypatch, status, said):
     assert ("its token is lost: use `indexctl user rotate eve`" in str(end.value)) == said
 
 
+@pytest.mark.parametrize("verb", ["add", "rotate"])
+@pytest.mark.parametrize("end", [OSError(28, "No space left on device"), BrokenPipeError()])
+def test_a_token_that_can_t_be_printed_is_told(run, monkeypatch, capsys, verb, end):
+    """As if the disk of the file that it goes to is full, or `head` had enough."""
+    class Full(io.StringIO):
+        def flush(self):
+            raise end
+    monkeypatch.setattr(sys, "stdout", Full())
+    with pytest.raises(OSError):
+        run("user", verb, "eve")
+    assert "eve's token could not be printed, and is lost: use `indexctl user rotate eve`" in capsys.readouterr().err
+
+
 def test_a_locked_user_has_a_token_that_nobody_knows(run, capsys):
     rows = run.asked("user", "lock", "eve", "bob")
     assert [(row["do"], row["user"]) for row in rows] == [("set_token", "eve"), ("set_token", "bob")]

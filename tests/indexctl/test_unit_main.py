@@ -1,11 +1,13 @@
 """How a run of indexctl ends: its status, and what it says on standard error."""
 from __future__ import annotations
 
+import sys
 import types
 
 import pytest
 from indexctl import main
 from indexctl.ends import INTERRUPTED, REFUSED, WRONG, Stop
+from indexctl.terminal import confirm_on_terminal, note, say
 from support.unit import calls, raises
 
 
@@ -24,6 +26,19 @@ def test_why_it_ends_is_told_and_is_its_status(monkeypatch, capsys, end, status,
     assert run(monkeypatch, raises(end)) == status
     out, err = capsys.readouterr()
     assert said in err and not out
+
+
+@pytest.mark.parametrize("stream", ["stdin", "stdout", "stderr"])
+def test_a_stream_that_is_closed_is_an_empty_one(monkeypatch, stream):
+    """Python has none then, as behind `<&-`."""
+    monkeypatch.setattr(sys, stream, None)
+
+    def command(_):
+        confirm_on_terminal(types.SimpleNamespace(yes=False), "Really?")
+        say("done")
+        note("well")
+    assert run(monkeypatch, command) == 0
+    getattr(sys, stream).close()
 
 
 @pytest.mark.parametrize("given, status", [(None, 0), (0, 0), (REFUSED, 1), (WRONG, 2)])

@@ -32,6 +32,13 @@ def test_a_secret_is_one_line_that_nobody_else_reads(home, mode):
     assert settings.read_secret(put(home / "s", " abc def \n", mode), "x") == "abc def"
 
 
+def test_files_of_windows_may_begin_with_a_mark(home):
+    """Its editors and shells put a byte order mark before UTF-8."""
+    profiles(home, "\ufeff" + ONE)
+    assert settings.read_profiles() == {"only": {"url": "https://h", "record": "/r%x"}}
+    assert settings.read_secret(put(home / "s", "\ufeffabc\r\n"), "x") == "abc"
+
+
 @pytest.mark.parametrize("name, why", [("none", "No such file or directory"), ("", "Is a directory")])
 def test_a_secret_that_can_t_be_read_is_told_by_its_path_and_why(home, name, why):
     path = str(home / name)
@@ -144,8 +151,10 @@ def test_netrc_has_the_token_or_the_password_of_the_proxy(home, login, token, ba
     assert setting("https://other").token == ""
 
 
-def test_a_netrc_that_can_t_be_read_is_told(home):
-    put(home / ".netrc", "nonsense")
+@pytest.mark.parametrize("text", [b"nonsense", b"machine other.example login r password gr\xfcn\n"])
+def test_a_netrc_that_can_t_be_read_is_told(home, text):
+    put(home / ".netrc", "")
+    (home / ".netrc").write_bytes(text)
     with pytest.raises(Stop, match="~/.netrc can't be used") as end:
         setting()
     assert end.value.status == WRONG

@@ -63,6 +63,11 @@ def test_a_line_that_lacks_something_is_refused(words, capsys):
     assert end.value.code == 2 and "usage: indexctl" in capsys.readouterr().err
 
 
+def test_a_terminal_may_have_one_column(monkeypatch):
+    monkeypatch.setenv("COLUMNS", "1")
+    assert "usage: indexctl" in command_line.parsers(COMMANDS)[0].format_help()
+
+
 @pytest.mark.parametrize("columns, most", [(60, 58), (200, 100)])
 def test_help_says_what_stands_where(monkeypatch, columns, most):
     monkeypatch.setenv("COLUMNS", str(columns))

@@ -161,6 +161,15 @@ def test_a_copy_is_read_alone_and_what_is_no_database_is_told(tmp_path, monkeypa
     assert VERIFY.fault("y.db") == "wrong y.db"
 
 
+@pytest.mark.parametrize("name", ["a%20b.db", "a?b.db", "a#b.db", "a b.db"])
+def test_a_copy_may_have_any_name(tmp_path, monkeypatch, name):
+    """SQLite reads the path of an address: of `a%20b.db` it would read `a b.db`."""
+    monkeypatch.setattr(VERIFY, "fault_by_program", lambda path: None)
+    with closing(sqlite3.connect(tmp_path / name)) as database:
+        database.executescript(TABLES)
+    assert VERIFY.fault(str(tmp_path / name)) is None
+
+
 def test_how_it_ends(tmp_path, monkeypatch, capsys):
     (tmp_path / "x.db").touch()
     for found, told in ((None, (0, "")), ("wrong", (1, f"index-verify: {tmp_path}/x.db: wrong\n"))):
