@@ -12,7 +12,6 @@ import tempfile
 
 import pytest
 from support.needed import want_command
-from support.two_machines.guests import DISK_MIB
 from support.two_machines.image import command, want_packages
 from support.two_machines.latency import measure
 from support.two_machines.partitions import alone_with_defaults, defaults_of_drbd, pull_the_cable
@@ -83,11 +82,11 @@ def resync(program, folder, count, chance, looked, cut):
 
 
 def latency(program, folder, count, chance, looked):
-    """How long an upload takes with DRBD over links of several lengths, and without DRBD. It prints what it finds."""
+    """An upload waits for the second machine as often as the kernel counts writes that wait, by links of several
+    lengths. It prints what it finds."""
     want_command("tc", "iproute2")
-    with open(f"{folder}/plain", "wb") as disk:
-        disk.truncate(DISK_MIB << 20)
-    with served_by_two(program, folder, [command("tc")], ["sch_netem"], f"{folder}/plain") as (pair, index):
+    with served_by_two(program, folder, [command("tc")], ["sch_netem"]) as (pair, index):
+        looked(index.claim("frob")[0] == 200)
         measure(pair, index, count, chance, looked)
 
 

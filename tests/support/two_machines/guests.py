@@ -18,7 +18,9 @@ MACHINE = ["qemu-system-x86_64", "-accel", "tcg", "-cpu", "Nehalem", "-M", "q35"
            "-nodefaults", "-no-user-config", "-no-reboot", "-display", "none"]
 KERNEL_WORDS = ("console=ttyS0 quiet panic=-1 edd=off nokaslr tsc=reliable mitigations=off net.ifnames=0 "
                 "random.trust_cpu=1 no_timer_check systemd.default_timeout_start_sec=900")
-DISK_MIB = 160
+DISK_MIB, MEMORY_MIB = 160, 320
+# DRBD has the second one, as on the page
+DISKS = "unused", "disk"
 
 
 class NoAnswer(Exception):
@@ -28,33 +30,29 @@ class NoAnswer(Exception):
 @dataclass
 class Guest:
     """`cable` are the ports of the two ends of the cable, its own first. `switch` is the command for a connection to
-    the power switch. `system` is a disk with what it boots besides, of which it gets a copy, and `memory` is in MiB."""
+    the power switch."""
     name: str
     at: int
     folder: str
     boots: tuple[str, str]
     cable: tuple[int, int]
     switch: str
-    system: str = ""
-    memory: int = 320
     process: subprocess.Popen | None = None
     lock: threading.Lock = field(default_factory=threading.Lock)
 
     def __post_init__(self) -> None:
         self.agent, self.port = free_port(), free_port()
         os.makedirs(self.folder, exist_ok=True)
-        for name, size in (("system", 1), ("disk", DISK_MIB)):
+        for name in DISKS:
             with open(f"{self.folder}/{name}", "wb") as disk:
-                disk.truncate(size << 20)
-        if self.system:
-            subprocess.run(["cp", "--sparse=always", self.system, f"{self.folder}/system"], check=True)
+                disk.truncate(DISK_MIB << 20)
 
     def words(self) -> list[str]:
         kernel, initrd = self.boots
-        words = [*MACHINE, "-m", f"{self.memory}", "-serial", f"file:{self.folder}/console", "-qmp",
+        words = [*MACHINE, "-m", f"{MEMORY_MIB}", "-serial", f"file:{self.folder}/console", "-qmp",
                  f"unix:{self.folder}/qmp,server=on,wait=off", "-kernel", kernel, "-initrd", initrd,
                  "-append", f"{KERNEL_WORDS} guest={self.name} at={self.at} systemd.hostname={self.name}"]
-        for name in ("system", "disk"):
+        for name in DISKS:
             words += ["-drive", f"file={self.folder}/{name},if=none,id={name},format=raw,cache=none,aio=threads",
                       "-device", f"virtio-blk-pci,drive={name},romfile="]
         front = (f"user,id=front,restrict=on,hostfwd=tcp:127.0.0.1:{self.agent}-:9000,"

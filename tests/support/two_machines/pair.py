@@ -35,12 +35,11 @@ def out_of_step(guest: Guest) -> int:
 
 
 class Pair:
-    def __init__(self, folder: str, boots: tuple[str, str], switch: Switch, system: str = "",
-                 memory: int = 320) -> None:
+    def __init__(self, folder: str, boots: tuple[str, str], switch: Switch) -> None:
         ends = free_port(), free_port()
         dials = f"{command('busybox')} nc 127.0.0.1 {switch.server.server_port}"
         self.switch = switch
-        self.guests = [Guest(name, at + 1, f"{folder}/{name}", boots, (ends[at], ends[1 - at]), dials, system, memory)
+        self.guests = [Guest(name, at + 1, f"{folder}/{name}", boots, (ends[at], ends[1 - at]), dials)
                        for at, name in enumerate(NAMES)]
         switch.guests.update({guest.name: guest for guest in self.guests})
 
@@ -84,9 +83,9 @@ class Pair:
 
 
 @contextmanager
-def two_guests(folder: str, boots: tuple[str, str], system: str = "", memory: int = 320) -> Iterator[Pair]:
+def two_guests(folder: str, boots: tuple[str, str]) -> Iterator[Pair]:
     with Switch() as switch:
-        pair = Pair(folder, boots, switch, system, memory)
+        pair = Pair(folder, boots, switch)
         try:
             yield pair
         finally:

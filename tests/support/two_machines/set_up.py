@@ -75,8 +75,8 @@ def bring_back(pair: Pair, guest: Guest) -> tuple[float, float]:
 
 
 @contextmanager
-def served_by_two(program: str, folder: str, besides: Iterable[str] = (), modules: Iterable[str] = (),
-                  system: str = "") -> Iterator[tuple[Pair, Served]]:
-    with two_guests(folder, make_image(folder, program, besides, modules), system) as pair:
+def served_by_two(program: str, folder: str, besides: Iterable[str] = (),
+                  modules: Iterable[str] = ()) -> Iterator[tuple[Pair, Served]]:
+    with two_guests(folder, make_image(folder, program, besides, modules)) as pair:
         pair.boot()
         yield pair, set_up(pair)
