@@ -15,10 +15,9 @@ from indexctl.changes import Desk
 from indexctl.ends import WRONG, Stop
 from indexctl.terminal import Progress, note, say
 from indexctl.transport import Request
-from package_index.names import file_path, normal, read_file_name
+from package_index.names import file_path, is_requires_python, normal, read_file_name
 
 MOST_BYTES, PIECE, MOST_TEXT = 16_777_216, 1 << 18, 512
-SPECIFIER = re.compile(r"\s*(?:~=|===?|!=|<=?|>=?)\s*[0-9A-Za-z][0-9A-Za-z.*+!_-]*\s*")
 
 
 def metadata(path: str) -> email.message.Message:
@@ -68,7 +67,7 @@ class File:
         text = self.requires
         if not text.isascii() or not text.isprintable() or len(text) > MOST_TEXT:
             raise Stop(WRONG, f"{self.path}: the index can't take its Requires-Python.")
-        if text and not all(SPECIFIER.fullmatch(it) for it in text.split(",")):
+        if not is_requires_python(text):
             raise Stop(WRONG, f"{self.path}: its Requires-Python is {text!r}, which is not a list such as `>=3.8, <4`.")
 
     def pieces(self) -> Iterator[bytes]:

@@ -104,7 +104,7 @@ REFUSED_BY_THE_INDEX = {
                           ["BadToken", "the password has to be the token"]),
     "a user who is not an owner": (WHEEL.format("1.6"), DATA, "abc", {}, 403, ["NotOwner", "add_owner"]),
     "a name that nobody holds": ("spam-1.0.tar.gz", DATA, "office", {}, 404, ["NoProject", "claim it first"]),
-    "Requires-Python of 600 bytes": (WHEEL.format("1.6"), DATA, "office", {"requires_python": "3" * 600}, 400,
+    "Requires-Python of 600 bytes": (WHEEL.format("1.6"), DATA, "office", {"requires_python": ">" + "3" * 600}, 400,
                                      ["BadText"]),
 }
 
@@ -129,6 +129,8 @@ REFUSED_BY_THE_SERVICE = {
     "a name that no path has": ("../frob-5.0.tar.gz", {"name": None}, 400, ["BadFileName"]),
     "a name with a line break": ('frob-5.0"\r\nX-Bad: y\r\n.whl', {}, 400, []),
     "Requires-Python with other letters": (REFUSED, {"requires_python": "≥3"}, 400, ["requires_python"]),
+    "Requires-Python that is not a list": (REFUSED, {"requires_python": "3.8 or later"}, 400,
+                                           ["'3.8 or later'", "build it again"]),
     "Requires-Python of 5000 bytes": (REFUSED, {"requires_python": "3" * 5000}, 400, ["requires_python"]),
 }
 

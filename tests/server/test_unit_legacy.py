@@ -127,6 +127,14 @@ def upload(**changed):
     return LEGACY.Upload(fields(data))
 
 
+@pytest.mark.parametrize("requires", ["3.8", "3.8 or later", ">=3.8 <4", ">=", "any"])
+def test_a_requires_python_that_clients_can_t_read_is_refused(requires):
+    """Poetry and PDM would take no release of the project because of it."""
+    with pytest.raises(LEGACY.Refused, match="Requires-Python is .*build it again") as refused:
+        upload(requires_python=requires)
+    assert refused.value.status == 400
+
+
 def test_an_upload_is_what_the_form_says():
     made = upload(requires_python=">=3.8", sha256_digest="AB" * 32)
     assert (made.file, bytes(made.data), made.project) == (WHEEL, DATA, "frob")

@@ -17,6 +17,7 @@ TAG = r"[A-Za-z0-9._]+"
 WHEEL = re.compile(rf"([A-Za-z0-9._]+)-({VERSION.pattern})(?:-([0-9][A-Za-z0-9._]*))?-({TAG})-({TAG})-({TAG})\.whl")
 ARCHIVE = re.compile(rf"([A-Za-z0-9._-]+)-({VERSION.pattern})\.tar\.gz")
 USER = re.compile("[a-z0-9]{1,32}")
+SPECIFIER = re.compile(r"\s*(?:~=|===?|!=|<=?|>=?)\s*[0-9A-Za-z][0-9A-Za-z.*+!_-]*\s*")
 
 
 class FileName(NamedTuple):
@@ -52,6 +53,12 @@ def is_version(text: str) -> bool:
 def is_user(text: str) -> bool:
     """Whether this is the id of a user."""
     return USER.fullmatch(text) is not None
+
+
+def is_requires_python(text: str) -> bool:
+    """Whether this is a list such as `>=3.8, <4`, or empty. If a page has any other text, pip warns of it, and Poetry
+    and PDM take no release of the project."""
+    return not text or all(SPECIFIER.fullmatch(it) for it in text.split(","))
 
 
 def read_file_name(text: str) -> Optional[FileName]:
