@@ -12,6 +12,7 @@ pub mod ThereLemmas
 pub mod WrongLemmas
 pub mod WrongLines
 pub mod WrongCalls
+pub mod WrongDrops
 pub mod WrongFiles
 pub mod WrongHeads
 pub mod WrongJobs

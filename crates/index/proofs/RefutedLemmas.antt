@@ -1,6 +1,6 @@
 -- What no run may do: wrong outcomes do not meet the words of the contracts.
 use Rattle.std.proofs.Common.{◌≡◌, ◌∙◌, ◌+◌, ℕ, suc, Result, Some, refl, ap, subst, inl, inr, List, [], ◌∷◌, length, arith}
-use Rattle.index_cli.specs.Connections.{Came, ClientTaken, Exchange, KnownList}
+use Rattle.index_cli.specs.Connections.{Came, ClientTaken, Exchange, KnownList, KnownReplies}
 use Rattle.sqlite.specs.Recovery.{Image}
 use Rattle.index_rules.specs.FirstTables.{first_tables}
 use Rattle.index_rules.specs.Maps.{Bytes}
@@ -39,7 +39,7 @@ no_length : (exchanges : List Exchange) → length exchanges ≡ 0 → exchanges
 no_length [] is = refl
 no_length (exchange ∷ earlier) is = absurd (omega (arith, is))
 
-none_came : (inputs : List (List ℕ)) (r r' : KnownList) (exchanges : List Exchange) → AreAmong (Some inputs) (Some inputs) r r' exchanges → length exchanges ≡ 0
+none_came : (inputs : List (List ℕ)) (r r' : KnownReplies) (exchanges : List Exchange) → AreAmong (Some inputs) (Some inputs) r r' exchanges → length exchanges ≡ 0
 none_came inputs r r' exchanges it =
     let came = came_fewer inputs it.later exchanges it.came in
     elim it.rest [
@@ -58,5 +58,5 @@ none_came inputs r r' exchanges it =
     ]
 
 -- of known connections that are as many after a run as before none was answered
-pub nobody_is_not_served : (inputs : List Bytes) (r r' : KnownList) (exchanges : List Exchange) → AreAmong (Some inputs) (Some inputs) r r' exchanges → exchanges ≡ []
+pub nobody_is_not_served : (inputs : List Bytes) (r r' : KnownReplies) (exchanges : List Exchange) → AreAmong (Some inputs) (Some inputs) r r' exchanges → exchanges ≡ []
 nobody_is_not_served inputs r r' exchanges it = no_length exchanges (none_came inputs r r' exchanges it)

@@ -1,7 +1,7 @@
 -- Connections that were answered, by what is known of them before and after.
 use Rattle.std.proofs.Common.{◌≡◌, ℕ, List, [], Option, Result, Ok, Err, inl, inr, refl, subst, subst₂, sym, arith}
 use Rattle.index_rules.specs.Tables.{Tables}
-use Rattle.index_cli.specs.Connections.{AreOn, Came, Closed, Exchange, IsRest, KnownList}
+use Rattle.index_cli.specs.Connections.{AreOn, Came, Closed, Exchange, IsRest, KnownList, KnownReplies}
 use Rattle.index_cli.specs.declared.end.ServeEnd.{ServeEnd}
 use Rattle.index_cli.specs.ServesFront.{LeavingTables, ServesFirst}
 use Rattle.index_cli.specs.Serving.{IsCount, ServesByHistory, Serves}
@@ -16,7 +16,7 @@ use Rattle.index.specs.Ends.{end_of_serving}
 use Rattle.index.specs.Tasks.{AnswersConnections, AnswersFirstConnections, AreAmong, IsNoListening, IsServingEnd, IsUpTo, LeavesConnections}
 
 -- from what gives connections to what is known of them
-pub among : {C : Type 0} (coming replies : C → KnownList) (old new : C) (a a' r r' : KnownList) → coming old ≡ a → a' ≡ coming new → replies old ≡ r → r' ≡ replies new
+pub among : {C : Type 0} (coming : C → KnownList) (replies : C → KnownReplies) (old new : C) (a a' : KnownList) (r r' : KnownReplies) → coming old ≡ a → a' ≡ coming new → replies old ≡ r → r' ≡ replies new
     → (exchanges : List Exchange) → AreOn coming replies old new exchanges → AreAmong a a' r r' exchanges
 among coming replies old new a a' r r' come left had have exchanges it = record {
   later = it.later;
@@ -72,7 +72,7 @@ module _ (Are Are' : List Exchange → Type 0) (are : (exchanges : List Exchange
   }
 
 -- no connection was answered
-module _ (a a' r r' : KnownList) (kept : (a' ≡ a) × (r' ≡ r)) (early : End) (fault : IsNoListening early) where
+module _ (a a' : KnownList) (r r' : KnownReplies) (kept : (a' ≡ a) × (r' ≡ r)) (early : End) (fault : IsNoListening early) where
   none_are : AreAmong a a' r r' []
   none_are = record { later = a'; came = kept.0; rest = inl refl; closed = kept.1 }
 

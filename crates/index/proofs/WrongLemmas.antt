@@ -6,7 +6,7 @@ use Rattle.sqlite.specs.Recovery.{Image}
 use Rattle.sqlite.specs.WalReads.{AreClean}
 use Rattle.sqlite_disk.specs.declared.Disk.{Ghosts}
 use Rattle.sqlite_disk.specs.declared.Files.{Files}
-use Rattle.index_cli.specs.Connections.{Exchange, KnownList}
+use Rattle.index_cli.specs.Connections.{Exchange, KnownList, KnownReplies}
 use Rattle.index_cli.specs.declared.end.LineEnd.{LineEnd}
 use Rattle.index_cli.specs.declared.end.ServeEnd.{ServeEnd}
 use Rattle.index_cli.specs.Ends.{LinesEnd, Telling}
@@ -121,19 +121,19 @@ wrong_lines given left had has T T' count wrong = record {
 }
 
 -- of no connections none was answered
-none_came : (later replies replies' : KnownList) (exchanges : List Exchange) → AreAmong (Some []) later replies replies' exchanges → length exchanges ≡ 0
+none_came : (later : KnownList) (replies replies' : KnownReplies) (exchanges : List Exchange) → AreAmong (Some []) later replies replies' exchanges → length exchanges ≡ 0
 none_came later replies replies' exchanges it =
     let came = came_fewer [] it.later exchanges it.came in
     let sum : 0 ≡ length came.0 + length exchanges = came.2 in
     omega (arith, sum)
 
-too_few : (later replies replies' : KnownList) (exchanges : List Exchange) (requests count : ℕ)
+too_few : (later : KnownList) (replies replies' : KnownReplies) (exchanges : List Exchange) (requests count : ℕ)
     → AreAmong (Some []) later replies replies' exchanges → length exchanges ≡ count → ¬ (count ≡ suc requests)
 too_few later replies replies' exchanges requests count are counted is =
     let none = none_came later replies replies' exchanges are in
     omega (arith, none, counted, is)
 
-wrong_connections : (at : Option ℕ) (requests found : ℕ) (later replies replies' : KnownList) (T T' : Tables) → RefutesConnections at requests found later replies replies' T T'
+wrong_connections : (at : Option ℕ) (requests found : ℕ) (later : KnownList) (replies replies' : KnownReplies) (T T' : Tables) → RefutesConnections at requests found later replies replies' T T'
 wrong_connections at requests found later replies replies' T T' = record {
   answers = λ it. let serves = it.tables.2 in too_few later replies replies' serves.exchanges requests it.tables.0 serves.are serves.counted it.tables.1;
   first = λ it. let serves = it.tables.2 in too_few later replies replies' serves.exchanges requests it.tables.0 serves.are serves.counted it.tables.1;

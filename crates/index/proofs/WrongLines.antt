@@ -5,7 +5,7 @@ use Rattle.std.proofs.lemmas.List.Elements.{All-head, All-tail}
 use Rattle.index_io.specs.Counts.{last_count}
 use Rattle.index_cli.specs.Causes.{LinesReportFaults}
 use Rattle.index_cli.specs.Ends.{LinesEnd}
-use Rattle.index_cli.specs.Connections.{AddsReply}
+use Rattle.index_cli.specs.Connections.{AddsReply, SentReply, StreamFaults}
 use Rattle.index_cli.specs.Lines.{Charges, HasNoFeed, PartIsTaken, TakesLine, line_feed, lines_of, longest_line}
 use Rattle.index_cli.specs.Telling.{TextAnswersLines}
 use Rattle.index_cli.specs.LineFronts.{TextAnswersFront, TextAnswersToFault}
@@ -152,31 +152,44 @@ refutes_numbers = record {
 
 -- ---- closed connections
 
-none_added : (replies : List Bytes) (sent : Option Bytes) → ¬ AddsReply (Some replies) (Some replies) sent
-none_added replies sent (reply, is, later) =
-    let both : Some replies ≡ Some (replies ++ reply ∷ []) = later in
-    let same : replies ≡ replies ++ reply ∷ [] = cc in
-    let size : length replies ≡ length replies + 1 = ap length same ∙ length-append replies (reply ∷ []) in
+none_added : (replies : List SentReply) (sent : Option Bytes) (faults : StreamFaults) → ¬ AddsReply (Some replies) (Some replies) sent faults
+none_added replies sent faults (bytes, is, later) =
+    let added : SentReply = record { bytes = bytes; faults = faults } in
+    let both : Some replies ≡ Some (replies ++ added ∷ []) = later in
+    let same : replies ≡ replies ++ added ∷ [] = cc in
+    let size : length replies ≡ length replies + 1 = ap length same ∙ length-append replies (added ∷ []) in
     absurd (omega (arith, size))
 
-other_added : (replies : List Bytes) (sent : Option Bytes) (other : Bytes) → (¬ (sent ≡ Some other)) → ¬ AddsReply (Some replies) (Some (replies ++ other ∷ [])) sent
-other_added replies sent other differs (reply, is, later) =
-    let both : Some (replies ++ other ∷ []) ≡ Some (replies ++ reply ∷ []) = later in
-    let same : replies ++ other ∷ [] ≡ replies ++ reply ∷ [] = cc in
-    let last : other ∷ [] ≡ reply ∷ [] = append_cancel_left replies (other ∷ []) (reply ∷ []) same in
-    let reply_is : other ≡ reply = cc in
-    differs (is ∙ ap (λ (it : Bytes). Some it) (sym reply_is))
+-- the reply that was added
+added_is : (replies : List SentReply) (reply added : SentReply) → Some (replies ++ reply ∷ []) ≡ Some (replies ++ added ∷ []) → reply ≡ added
+added_is replies reply added both =
+    let same : replies ++ reply ∷ [] ≡ replies ++ added ∷ [] = cc in
+    let last : reply ∷ [] ≡ added ∷ [] = append_cancel_left replies (reply ∷ []) (added ∷ []) same in
+    cc
 
-none_lost : (replies : List Bytes) (sent : Option Bytes) → ¬ AddsReply (Some replies) None sent
-none_lost replies sent (reply, is, later) =
-    let no : None ≡ Some (replies ++ reply ∷ []) = later in
+other_added : (replies : List SentReply) (sent : Option Bytes) (faults : StreamFaults) (reply : SentReply) → (¬ (sent ≡ Some reply.bytes))
+    → ¬ AddsReply (Some replies) (Some (replies ++ reply ∷ [])) sent faults
+other_added replies sent faults reply differs (bytes, is, later) =
+    let reply_is = added_is replies reply (record { bytes = bytes; faults = faults }) later in
+    differs (is ∙ ap (λ (it : SentReply). Some it.bytes) (sym reply_is))
+
+miscounted_added : (replies : List SentReply) (sent : Option Bytes) (faults : StreamFaults) (reply : SentReply) → (¬ (faults ≡ reply.faults))
+    → ¬ AddsReply (Some replies) (Some (replies ++ reply ∷ [])) sent faults
+miscounted_added replies sent faults reply differs (bytes, is, later) =
+    let reply_is = added_is replies reply (record { bytes = bytes; faults = faults }) later in
+    differs (ap (λ (it : SentReply). it.faults) (sym reply_is))
+
+none_lost : (replies : List SentReply) (sent : Option Bytes) (faults : StreamFaults) → ¬ AddsReply (Some replies) None sent faults
+none_lost replies sent faults (bytes, is, later) =
+    let no : None ≡ Some (replies ++ record { bytes = bytes; faults = faults } ∷ []) = later in
     cc no
 
-refutes_added : (replies : List Bytes) (sent : Option Bytes) → RefutesAdded replies sent
-refutes_added replies sent = record {
-  none = none_added replies sent;
-  other = other_added replies sent;
-  lost = none_lost replies sent;
+refutes_added : (replies : List SentReply) (sent : Option Bytes) (faults : StreamFaults) → RefutesAdded replies sent faults
+refutes_added replies sent faults = record {
+  none = none_added replies sent faults;
+  other = other_added replies sent faults;
+  miscounted = miscounted_added replies sent faults;
+  lost = none_lost replies sent faults;
 }
 
 -- ---- all of them

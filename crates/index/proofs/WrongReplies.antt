@@ -23,7 +23,7 @@ use Rattle.index_http.specs.Sends.{SendsFirstBytes, SendsLessThanText}
 use Rattle.index_http.specs.Steps.{at_desk, to_sink}
 use Rattle.index_http.specs.declared.end.IoEnd.{IoEnd}
 use Rattle.index_http.specs.declared.end.IoEnd.TheVariants as io_end
-use Rattle.index_cli.specs.Connections.{ClientTaken}
+use Rattle.index_cli.specs.Connections.{ClientTaken, StreamFaults}
 use Rattle.index_cli.specs.Replies.{line_reply_text}
 use Rattle.index_cli.specs.Telling.{TextAnswersParsedLine}
 use Rattle.index_cli.specs.declared.end.LineEnd.{LineEnd}
@@ -196,8 +196,8 @@ no_failure_shown g out old new before after clean at input none was failed it = 
   | inr shows ↦ no_request input none shows.0
 ]
 
-refutes_headless : (at : ℕ) (input : Bytes) (had has : Option Bytes) → HasNoHead input → RefutesHeadless at input had has
-refutes_headless at input had has none = record {
+refutes_headless : (at : ℕ) (input : Bytes) (had has : Option Bytes) (faults : StreamFaults) → HasNoHead input → RefutesHeadless at input had has faults
+refutes_headless at input had has faults none = record {
   text = λ before after h T' wrong it.
       let ends = it.ends in
       wrong (subst (λ (it : Bytes). Appends had has it) (bad_head_replied by_history at h input none (HasFailed before after) ends.0 it.later ends.1).0 ends.2);
@@ -223,9 +223,9 @@ none_asked at input Looked Took had has ended none (inr it) =
     subst (λ (message : Message). AsksFor (call_in at message) (text_of_answer message) Looked Took had has ended)
     (bad_message input it.0 it.1 none it.2 it.3) it.4
 
-refutes_asks : {S : Type 0} (g : Ghosts S) (old new : S) → g.IsHonest new → HasOneBearer (g.tables old) → (at : ℕ) (input : Bytes) (had has : Option Bytes)
-    → HasNoHead input → (¬ (g.tables new ≡ g.tables old)) → RefutesAsks g old new at input had has
-refutes_asks g old new honest one at input had has none changed = record {
+refutes_asks : {S : Type 0} (g : Ghosts S) (old new : S) → g.IsHonest new → HasOneBearer (g.tables old) → (at : ℕ) (input : Bytes) (had has : Option Bytes) (faults : StreamFaults)
+    → HasNoHead input → (¬ (g.tables new ≡ g.tables old)) → RefutesAsks g old new at input had has faults
+refutes_asks g old new honest one at input had has faults none changed = record {
   message = λ it.
       let one = it.tables honest one in
       changed (unchanged by_tables at (g.tables old) input none (HasFailed one.failures one.later_failures) (g.tables new) had has one.ended one.ends);

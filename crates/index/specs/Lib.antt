@@ -7,6 +7,7 @@ pub mod Openings
 pub mod Printed
 pub mod Refuted
 pub mod RefutedCalls
+pub mod RefutedDrops
 pub mod RefutedJobs
 pub mod RefutedLines
 pub mod RefutedLooks

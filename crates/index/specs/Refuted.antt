@@ -14,7 +14,7 @@ use Rattle.sqlite.specs.WalFiles.{outcomes}
 use Rattle.sqlite.specs.WalReads.{AreClean}
 use Rattle.sqlite_disk.specs.declared.Disk.{Ghosts}
 use Rattle.sqlite_disk.specs.declared.Files.{Files}
-use Rattle.index_cli.specs.Connections.{KnownList}
+use Rattle.index_cli.specs.Connections.{KnownList, KnownReplies}
 use Rattle.index_cli.specs.Lines.{lines_of}
 use Rattle.index_desk.specs.Checks.{wrong_charges_in}
 use Rattle.index_rules.specs.Maps.{Bytes}
@@ -112,7 +112,7 @@ pub record RefutesLines (given : List ℕ) (left had has : Option (List ℕ)) (T
 
 -- if no connection came, a serve of one or more does not succeed
 pub record RefutesConnections (at : Option ℕ) (requests found : ℕ)
-    (later replies replies' : KnownList) (T T' : Tables) : Type 0 where
+    (later : KnownList) (replies replies' : KnownReplies) (T T' : Tables) : Type 0 where
   pub answers : ¬ AnswersConnections (AreAmong (Some []) later replies replies') at (suc requests)
       T T' (Ok found)
   pub first : ¬ AnswersFirstConnections (AreAmong (Some []) later replies replies') at
@@ -124,8 +124,9 @@ pub record RefutesConnections (at : Option ℕ) (requests found : ℕ)
 pub record RefutesTasks : Type 0 where
   pub lines : (given : List ℕ) (left had has : Option (List ℕ)) (T T' : Tables) (count : ℕ)
       → (¬ (count ≡ length (lines_of given))) → RefutesLines given left had has T T' count
-  pub connections : (at : Option ℕ) (requests found : ℕ) (later replies replies' : KnownList)
-      (T T' : Tables) → RefutesConnections at requests found later replies replies' T T'
+  pub connections : (at : Option ℕ) (requests found : ℕ) (later : KnownList)
+      (replies replies' : KnownReplies) (T T' : Tables)
+      → RefutesConnections at requests found later replies replies' T T'
   -- a report and a check change no table, and the number of a check is that of the wrong charges
   pub report : (had has : Option (List ℕ)) (told : Result ℕ End) (T T' : Tables)
       → (¬ (T' ≡ T)) → ¬ WritesReport had has T T' told

@@ -3,7 +3,7 @@ use Rattle.std.specs.Prelude.{Err, List, None, Ok, Option, Some, [], length, ℕ
 use Rattle.std.specs.Prelude.{◌∷◌, ◌≡◌, ◌≤◌}
 use Rattle.index_io.specs.Counts.{last_count}
 use Rattle.index_cli.specs.Causes.{HaveCounted, HaveFailed, LinesReportFaults}
-use Rattle.index_cli.specs.Connections.{AddsReply}
+use Rattle.index_cli.specs.Connections.{AddsReply, SentReply, StreamFaults}
 use Rattle.index_cli.specs.Ends.{LinesEnd}
 use Rattle.index_cli.specs.Lines.{Charges, PartIsTaken, TakesLine, line_feed, lines_of}
 use Rattle.index_cli.specs.Lines.{longest_line}
@@ -117,15 +117,20 @@ pub record RefutesNumbers : Type 0 where
 
 -- ---- closed connections
 
--- after a connection was closed, to which this was sent, these replies are not all that there were
-pub record RefutesAdded (replies : List Bytes) (sent : Option Bytes) : Type 0 where
+-- after a connection was closed, to which this was sent, with these faults, these replies are not
+-- all that there were
+pub record RefutesAdded (replies : List SentReply) (sent : Option Bytes) (faults : StreamFaults)
+    : Type 0 where
   -- none was added
-  pub none : ¬ AddsReply (Some replies) (Some replies) sent
+  pub none : ¬ AddsReply (Some replies) (Some replies) sent faults
   -- another was added
-  pub other : (reply : Bytes) → (¬ (sent ≡ Some reply))
-      → ¬ AddsReply (Some replies) (Some (replies ++ reply ∷ [])) sent
+  pub other : (reply : SentReply) → (¬ (sent ≡ Some reply.bytes))
+      → ¬ AddsReply (Some replies) (Some (replies ++ reply ∷ [])) sent faults
+  -- one was added with other faults
+  pub miscounted : (reply : SentReply) → (¬ (faults ≡ reply.faults))
+      → ¬ AddsReply (Some replies) (Some (replies ++ reply ∷ [])) sent faults
   -- those before it are unknown
-  pub lost : ¬ AddsReply (Some replies) None sent
+  pub lost : ¬ AddsReply (Some replies) None sent faults
 
 -- ---- all of them
 
@@ -138,4 +143,5 @@ pub record RefutesLineCounts : Type 0 where
       → RefutesStoreLine T given line had left before faults
   pub long : (line text : Bytes) → longest_line < length line → RefutesLongLine line text
   pub numbers : RefutesNumbers
-  pub added : (replies : List Bytes) (sent : Option Bytes) → RefutesAdded replies sent
+  pub added : (replies : List SentReply) (sent : Option Bytes) (faults : StreamFaults)
+      → RefutesAdded replies sent faults

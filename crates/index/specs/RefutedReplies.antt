@@ -34,7 +34,7 @@ use Rattle.index_http.specs.Shows.{Look, LookShows}
 use Rattle.index_http.specs.Steps.{at_desk, to_sink}
 use Rattle.index_http.specs.declared.end.IoEnd.{IoEnd}
 use Rattle.index_http.specs.declared.end.IoEnd.TheVariants as io_end
-use Rattle.index_cli.specs.Connections.{Exchange, KnownList}
+use Rattle.index_cli.specs.Connections.{Exchange, KnownList, KnownReplies, StreamFaults}
 use Rattle.index_cli.specs.Lines.{longest_line}
 use Rattle.index_cli.specs.Replies.{KeptLineIsAnswered, LineFailsOnly, LineReportsStoreFault}
 use Rattle.index_cli.specs.Replies.{RepliesStanding, RepliesToLine}
@@ -140,11 +140,13 @@ abbrev pub bad_head_text : Bytes → Bytes
 bad_head_text input = reply_text (begins_with_head input) (message_reply BadHead)
 
 -- a connection whose client sent this input
-abbrev pub exchange_of : ℕ → Bytes → (had has : Option Bytes) → Exchange
-exchange_of at input had has = record { at = at; given = Some input; had = had; has = has }
+abbrev pub exchange_of : ℕ → Bytes → (had has : Option Bytes) → StreamFaults → Exchange
+exchange_of at input had has faults =
+    record { at = at; given = Some input; had = had; has = has; faults = faults }
 
 -- no input without a head gets the wrong reply or changes a table
-pub record RefutesHeadless (at : ℕ) (input : Bytes) (had has : Option Bytes) : Type 0 where
+pub record RefutesHeadless (at : ℕ) (input : Bytes) (had has : Option Bytes)
+    (faults : StreamFaults) : Type 0 where
   -- its reply is not the one to a malformed head
   pub text : (before after : ℕ) (h : History) (T' : Tables)
       → (¬ Appends had has (bad_head_text input))
@@ -155,30 +157,32 @@ pub record RefutesHeadless (at : ℕ) (input : Bytes) (had has : Option Bytes) :
       → ¬ ReplyEndsByHistory (HasFailed before after) at h (Some input) had has result T'
   -- the input changed a table
   pub tables : (T T' : Tables) → (¬ (T' ≡ T))
-      → ¬ ExchangeIsAnswered by_tables (exchange_of at input had has) T T'
+      → ¬ ExchangeIsAnswered by_tables (exchange_of at input had has faults) T T'
   -- what was sent is not the start of the reply
   pub front : (T T' : Tables) → ((count : ℕ) → ¬ Appends had has (take count (bad_head_text input)))
-      → ¬ ExchangeIsAnswered by_tables (exchange_of at input had has) T T'
+      → ¬ ExchangeIsAnswered by_tables (exchange_of at input had has faults) T T'
   -- the tables do not stand for the one history
   pub history : (h : History) (T' : Tables) → (¬ StandsFor T' h)
-      → ¬ OneHistory h (exchange_of at input had has) T'
+      → ¬ OneHistory h (exchange_of at input had has faults) T'
   -- its whole reply shows no failure
   pub whole : (T : Tables) → ¬ SentBytesShowFailure (IsFaultless by_tables at (Some input) T)
       (Some []) (Some (bad_head_text input))
   -- a failure, whatever was sent: only the reply to a request tells of one
-  pub fails : (T : Tables) → ¬ ExchangeShowsFailure by_tables (exchange_of at input had has) T
+  pub fails : (T : Tables)
+      → ¬ ExchangeShowsFailure by_tables (exchange_of at input had has faults) T
 
 -- no input without a head changes the tables of a desk or makes a call of it
 pub record RefutesAsks {S : Type 0} (g : Ghosts S) (old new : S) (at : ℕ) (input : Bytes)
-    (had has : Option Bytes) : Type 0 where
-  pub message : ¬ DeskAnswersExchange g old new (exchange_of at input had has)
-  pub asks : ¬ AsksOne (exchange_of at input had has) (LeavesTables g old new) (Takes g old new)
+    (had has : Option Bytes) (faults : StreamFaults) : Type 0 where
+  pub message : ¬ DeskAnswersExchange g old new (exchange_of at input had has faults)
+  pub asks : ¬ AsksOne (exchange_of at input had has faults) (LeavesTables g old new)
+      (Takes g old new)
 
 -- the next connection was answered, but as many are to come as before
 abbrev pub RefutesNext : {S : Type 0} → Ghosts S → S → S → Type 0
-RefutesNext g old new = (given : Option ℕ) (inputs : List Bytes) (replies later : KnownList)
+RefutesNext g old new = (given : Option ℕ) (inputs : List Bytes) (replies later : KnownReplies)
     → ¬ NextConnectionIsAnswered given (at_desk g old new)
-    (on_connections (λ (known : KnownList × KnownList). known.0) (λ known. known.1)
+    (on_connections (λ (known : KnownList × KnownReplies). known.0) (λ known. known.1)
     (Some inputs, replies) (Some inputs, later))
 
 -- ---- lines
@@ -244,8 +248,8 @@ pub record RefutesHonest {S K : Type 0} (g : Ghosts S) (out : Outs K) (old new :
       → (¬ (g.failures new ≡ g.failures old))
       → ¬ LastsOrFails at (Some input) (at_desk g old new) (to_sink out before after)
   pub asks : HasOneBearer (g.tables old) → (at : ℕ) (input : Bytes) (had has : Option Bytes)
-      → HasNoHead input → (¬ (g.tables new ≡ g.tables old))
-      → RefutesAsks g old new at input had has
+      (faults : StreamFaults) → HasNoHead input → (¬ (g.tables new ≡ g.tables old))
+      → RefutesAsks g old new at input had has faults
 
 -- all wrong replies that the contracts exclude
 pub record RefutesReplies {S K : Type 0} (g : Ghosts S) (out : Outs K) : Type 0 where
@@ -254,7 +258,7 @@ pub record RefutesReplies {S K : Type 0} (g : Ghosts S) (out : Outs K) : Type 0 
   pub next : (old new : S) → RefutesNext g old new
   pub reports : (old new : S) (before after : K) → RefutesReports g out old new before after
   pub heads : (before after : K) → RefutesHeads out before after
-  pub headless : (at : ℕ) (input : Bytes) (had has : Option Bytes) → HasNoHead input
-      → RefutesHeadless at input had has
+  pub headless : (at : ℕ) (input : Bytes) (had has : Option Bytes) (faults : StreamFaults)
+      → HasNoHead input → RefutesHeadless at input had has faults
   pub faults : (before after : ℕ) → RefutesLineFaults before after
   pub bytes : RefutesBytes

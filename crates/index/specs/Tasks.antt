@@ -5,7 +5,8 @@ use Rattle.std.specs.Prelude.{◌≤◌, ◌⊎◌}
 use Rattle.index_cli.specs.declared.end.LineEnd.{LineEnd}
 use Rattle.index_cli.specs.declared.end.ServeEnd.{ServeEnd}
 use Rattle.index_cli.specs.Ends.{LinesEnd}
-use Rattle.index_cli.specs.Connections.{AreOn, Exchange, KnownList, unknown}
+use Rattle.index_cli.specs.Connections.{AreOn, Exchange, KnownList, KnownReplies}
+use Rattle.index_cli.specs.Connections.{unknown, unknown_replies}
 use Rattle.index_cli.specs.ServesFront.{LeavingTables, ServesFirst}
 use Rattle.index_cli.specs.Serving.{ServesByHistory, Serves}
 use Rattle.index_cli.specs.Telling.{TextAnswersLines}
@@ -127,11 +128,12 @@ pub record LeavesConnections
       → (count : ℕ) × IsUpTo requests result count
       × ServesFirst (LeavingTables Are (CallsLeaveHistory h) T') by_history at count h
 
--- the exchanges are the first of the connections to come, and their replies are those sent
+-- the exchanges are the first of the connections to come, and their replies and faults are those
 -- meanwhile, by what is known before and after
-abbrev pub AreAmong : (coming coming' replies replies' : KnownList) → List Exchange → Type 0
+abbrev pub AreAmong : (coming coming' : KnownList) → (replies replies' : KnownReplies)
+    → List Exchange → Type 0
 AreAmong coming coming' replies replies' =
-    AreOn (λ (known : KnownList × KnownList). known.0) (λ known. known.1)
+    AreOn (λ (known : KnownList × KnownReplies). known.0) (λ known. known.1)
     (coming, replies) (coming', replies')
 
 -- ---- a task
@@ -142,14 +144,15 @@ pub data Task : Type 0 where
   AnswerLines : (given left had has : Option (List ℕ)) → Task
   -- the moment that is given for all connections, how many there are, and what is known of them
   AnswerConnections : (at : Option ℕ) → (requests : ℕ)
-      → (coming coming' replies replies' : KnownList) → Task
+      → (coming coming' : KnownList) → (replies replies' : KnownReplies) → Task
   -- what a writer had and has
   WriteReport : (had has : Option (List ℕ)) → Task
   CountWrong : Task
 
 -- connections over sockets, of which nothing is known
 abbrev pub answer_sockets : Option ℕ → ℕ → Task
-answer_sockets at requests = AnswerConnections at requests unknown unknown unknown unknown
+answer_sockets at requests =
+    AnswerConnections at requests unknown unknown unknown_replies unknown_replies
 
 -- what a task with this result does to the tables
 abbrev pub Does : Task → Result ℕ End → Tables → Tables → Type 0

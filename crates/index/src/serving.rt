@@ -1,6 +1,6 @@
 //! The work of `serve`: connections are answered, over sockets or from any other source.
 ghost use Rattle.std.specs.Prelude.{◌≡◌, ◌*◌, ◌↔◌, unwrap_or, IfErr, IfOk, IsErrOf, IsTrue, OnErr};
-ghost use Rattle.index_cli.specs.Connections.{KnownList};
+ghost use Rattle.index_cli.specs.Connections.{KnownList, KnownReplies};
 ghost use Rattle.index.specs.Causes.{IsNoAddress, is_of_address};
 ghost use Rattle.index.specs.Tasks.{IsNoListening};
 
@@ -57,8 +57,8 @@ pub trait Listens {
     /// What the clients of the connections to come send, in order, if that is known.
     ghost coming: { Self → KnownList };
 
-    /// What was sent on the connections that were closed, in order, if that is known.
-    ghost replies: { Self → KnownList };
+    /// What was sent and what failed on the connections that were closed, in order, if that is known.
+    ghost replies: { Self → KnownReplies };
 
     /// Listens, and prints the address.
     ///
@@ -119,13 +119,13 @@ pub struct Address<'a> {
 }
 
 impl Listens for Address<'_> {
-    ghost use Rattle.index_cli.specs.Connections.{unknown};
+    ghost use Rattle.index_cli.specs.Connections.{unknown, unknown_replies};
 
     type Coming = Listening;
 
     ghost coming = { λ _. unknown };
 
-    ghost replies = { λ _. unknown };
+    ghost replies = { λ _. unknown_replies };
 
     fn listen(&mut self, rt: &HostRuntime) -> Result<Listening, End> {
         let listener = match listen_at(rt, self.address) {

@@ -125,6 +125,7 @@ asks_one_map : (exchange : Exchange) (L L' : Type 0) (K K' : Call → Answer →
 asks_one_map exchange L L' K K' f k it = record {
   ended = it.ended;
   asks = asks_map L L' K K' exchange.had exchange.has it.ended f k exchange.at exchange.given it.asks;
+  cause = it.cause;
 }
 
 pub asks_each_map : (exchanges : List Exchange) (Holds Holds' : List Call → List Answer → Type 0) → ((calls : List Call) (answers : List Answer) → Holds calls answers → Holds' calls answers)

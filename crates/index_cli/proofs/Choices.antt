@@ -66,7 +66,7 @@ module _ (A Looked : Type 0) (LookedBy : A → Type 0) (Took : Call → Answer �
 
   pub AsksOne-choice : (exchange : Exchange) → AsksOne exchange Looked Took → (a : A) × AsksOne exchange (LookedBy a) (TookBy a)
   AsksOne-choice exchange it = let chosen = Asks-choice exchange.had exchange.has it.ended exchange.at exchange.given it.asks in
-      (chosen.0, record { ended = it.ended; asks = chosen.1 })
+      (chosen.0, record { ended = it.ended; asks = chosen.1; cause = it.cause })
 
 pub LineCallsLeave-choice : (A : Type 0) (T : Tables) (Left : List Call → List Answer → Tables → Type 0) (LeftBy : A → List Call → List Answer → Tables → Type 0)
     → ((calls : List Call) (answers : List Answer) → Left calls answers T → (a : A) × LeftBy a calls answers T)

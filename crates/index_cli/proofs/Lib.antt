@@ -6,6 +6,7 @@ pub mod CauseLemmas
 pub mod Histories
 pub mod Crashes
 pub mod Choices
+pub mod ExchangeCauses
 pub mod FaultTexts
 pub mod Fronts
 pub mod Served

@@ -6,7 +6,7 @@ use Rattle.index_rules.specs.History.{History}
 use Rattle.index_rules.specs.Tables.{Tables}
 use Rattle.index_desk.specs.Rules.{Rules}
 use Rattle.index_http.specs.declared.end.IoEnd.TheVariants.{OutOfMemory}
-use Rattle.index_cli.specs.Connections.{AreOn, Came, Closed, Exchange, IsRest, KnownList, Loses}
+use Rattle.index_cli.specs.Connections.{AreOn, Came, Closed, Exchange, IsRest, IsUnsent, KnownList, KnownReplies, Loses, no_faults}
 use Rattle.index_http.specs.Steps.{at_desk}
 use Rattle.index_cli.specs.Steps.{on_connections}
 use Rattle.index_cli.specs.Serving.{DeskAnswersExchange, NextConnectionIsAnswered, Serves, ServesByHistory}
@@ -22,7 +22,7 @@ module _ (Are Are' : List Exchange → Type 0) (f : (exchanges : List Exchange) 
 
 -- ---- connections so far
 
-module _ {C : Type 0} (coming replies : C → KnownList) where
+module _ {C : Type 0} (coming : C → KnownList) (replies : C → KnownReplies) where
   -- these came and were closed since it was as it was first
   abbrev pub AreSoFar : (first now : C) → List Exchange → Type 0
   AreSoFar first now exchanges = Came (coming first) (coming now) exchanges × Closed (replies first) (replies now) exchanges
@@ -31,14 +31,14 @@ module _ {C : Type 0} (coming replies : C → KnownList) where
   pub are_on : (first now new : C) → IsRest (coming now) (coming new) → replies new ≡ replies now
       → (exchanges : List Exchange) → AreSoFar first now exchanges → AreOn coming replies first new exchanges
   are_on first now new rest same exchanges it =
-      record { later = coming now; came = it.0; rest = rest; closed = subst (λ r. Closed (replies first) r exchanges) (sym same) it.1 }
+      record { later = coming now; came = it.0; rest = rest; closed = subst (λ (r : KnownReplies). Closed (replies first) r exchanges) (sym same) it.1 }
 
   -- one more was
   pub are_push : {S : Type 0} (g : Ghosts S) (old new : S) (first now after : C) (given : Option ℕ)
       → (next : NextConnectionIsAnswered given (at_desk g old new) (on_connections coming replies now after))
       → (earlier : List Exchange) → AreSoFar first now earlier → AreSoFar first after (next.exchange ∷ earlier)
   are_push g old new first now after given next earlier it =
-      ((coming now, it.0, next.came, next.unsent), (replies now, it.1, next.closed))
+      ((coming now, it.0, next.came), (replies now, it.1, next.unsent, next.closed))
 
 -- ---- one that was closed at once
 
@@ -47,12 +47,12 @@ its_moment None = tt
 its_moment (Some at) = refl
 
 unasked : {S : Type 0} (g : Ghosts S) (s : S) (at : ℕ) (given : Option (List ℕ))
-    → DeskAnswersExchange g s s (record { at = at; given = given; had = Some []; has = Some [] })
+    → DeskAnswersExchange g s s (record { at = at; given = given; had = Some []; has = Some []; faults = no_faults })
 unasked g s at given = record {
-  tables = λ honest one. record { failures = 0; later_failures = 0; ended = Err OutOfMemory; ends = (refl, refl) };
+  tables = λ honest one. record { failures = 0; later_failures = 0; ended = Err OutOfMemory; ends = (refl, refl); cause = tt };
   history = λ honest h legal stands. record {
     later = h;
-    answers = record { failures = 0; later_failures = 0; ended = Err OutOfMemory; ends = (refl, refl) };
+    answers = record { failures = 0; later_failures = 0; ended = Err OutOfMemory; ends = (refl, refl); cause = tt };
     legal = legal;
     stands = stands;
   };
@@ -60,18 +60,24 @@ unasked g s at given = record {
   asks = record {
     ended = Err OutOfMemory;
     asks = inl (record { unchanged = λ _. refl; honest = λ it. it; clean = λ it. it; crash = λ _ left. left }, refl, refl);
+    cause = tt;
   };
   keeps = record { one_bearer = λ _ it. it; sound = λ _ it. it; honest = λ it. it; clean = λ it. it };
 }
 
-pub closed_at_once : {S C : Type 0} (g : Ghosts S) (s : S) (coming replies : C → KnownList) (before after : C) (given : Option ℕ)
+-- nothing was sent
+none_sent : (replies : KnownReplies) → IsUnsent replies (Some [])
+none_sent None = refl
+none_sent (Some replies) = refl
+
+pub closed_at_once : {S C : Type 0} (g : Ghosts S) (s : S) (coming : C → KnownList) (replies : C → KnownReplies) (before after : C) (given : Option ℕ)
     → Loses (coming before) (coming after) (replies before) (replies after)
     → NextConnectionIsAnswered given (at_desk g s s) (on_connections coming replies before after)
 closed_at_once g s coming replies before after given lost = record {
-  exchange = record { at = unwrap_or given 0; given = lost.0; had = Some []; has = Some [] };
+  exchange = record { at = unwrap_or given 0; given = lost.0; had = Some []; has = Some []; faults = no_faults };
   is_given = its_moment given;
   came = lost.1;
-  unsent = refl;
+  unsent = none_sent (replies before);
   closed = lost.2;
   answers = unasked g s (unwrap_or given 0) lost.0;
 }

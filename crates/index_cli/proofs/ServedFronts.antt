@@ -143,7 +143,7 @@ one_history h legal T T' stands exchange one =
     let it = reply_ends_by_history _ exchange.at h legal T T' stands exchange.given exchange.had exchange.has one.ended one.ends in
     record {
       later = it.later;
-      answers = record { failures = one.failures; later_failures = one.later_failures; ended = one.ended; ends = it.ends };
+      answers = record { failures = one.failures; later_failures = one.later_failures; ended = one.ended; ends = it.ends; cause = one.cause };
       legal = it.legal;
       stands = it.stands;
     }

@@ -1,6 +1,6 @@
 -- The state after the messages of connections, one after the other, by rules over any state.
 use Rattle.std.specs.Prelude.{Err, IfSome, List, Ok, Option, Result, [], length, ℕ, ◌++◌, ◌<◌, ◌∷◌}
-use Rattle.std.specs.Prelude.{◌≡◌, ◌⊎◌}
+use Rattle.std.specs.Prelude.{⊤, ◌≡◌, ◌⊎◌}
 use Rattle.std.specs.List.{AllByRecursion}
 use Rattle.index_io.specs.Counts.{HasFailed}
 use Rattle.index_rules.specs.declared.answer.Answer.{Answer}
@@ -18,14 +18,26 @@ use Rattle.index_desk.specs.Takes.{ByHistory, ByTables, Takes}
 use Rattle.index_http.specs.Asks.{Asks}
 use Rattle.index_http.specs.Ends.{ReplyEnds, SentBytesShowFailure}
 use Rattle.index_http.specs.Exchanges.{HasRequest, InputGetsText, IsFaultless}
+use Rattle.index_http.specs.Shows.{GivesMessage, asks_page}
 use Rattle.index_http.specs.declared.end.IoEnd.{IoEnd}
+use Rattle.index_http.specs.declared.end.IoEnd.TheVariants.{Cut, OutOfMemory, ReadFault, WriteFault}
 use Rattle.index_http.specs.Steps.{DeskStep, StaysHonest, at_desk}
 use Rattle.index_cli.specs.Connections.{AddsReply, ClientTaken, Exchange, IsUnsent}
 use Rattle.index_cli.specs.Steps.{ConnectionsStep}
 use Rattle.index_cli.specs.declared.end.ServeEnd.{ServeEnd}
 
--- a connection was answered: the reply to its message or a first part of it was sent, or nothing
--- was sent and nothing changed
+-- An exchange ended early only for a read or a write that failed on it, or for want of memory. A
+-- page may be cut short too.
+abbrev pub EndHasCause : Exchange → Result (Unit {0}) IoEnd → Type 0
+EndHasCause exchange (Ok done) = ⊤
+EndHasCause exchange (Err ReadFault) = 0 < exchange.faults.reads
+EndHasCause exchange (Err OutOfMemory) = ⊤
+EndHasCause exchange (Err (WriteFault count)) = 0 < exchange.faults.writes
+EndHasCause exchange (Err (Cut count)) = GivesMessage asks_page exchange.given
+
+-- A connection was answered: the reply to its message was sent. Or a first part of it, and a write
+-- failed or the reply is a page; or nothing was sent, nothing changed, and a read failed or memory
+-- ran out.
 pub record ExchangeIsAnswered {S : Type 0} (rules : Rules S) (exchange : Exchange) (s s' : S)
     : Type 0 where
   pub failures : ℕ
@@ -34,6 +46,7 @@ pub record ExchangeIsAnswered {S : Type 0} (rules : Rules S) (exchange : Exchang
   pub ends : ReplyEnds (λ text.
       InputGetsText rules (HasFailed failures later_failures) exchange.at s exchange.given text s')
       (s' ≡ s) exchange.had exchange.has ended
+  pub cause : EndHasCause exchange ended
 
 -- a connection with a whole request was answered, and the bytes that were sent show a failure: they
 -- are the reply to a fault or its first bytes, or less than the whole reply
@@ -81,6 +94,7 @@ pub record AsksOne (exchange : Exchange) (Looked : Type 0) (Took : Call → Answ
     : Type 0 where
   pub ended : Result (Unit {0}) IoEnd
   pub asks : Asks exchange.at exchange.given Looked Took exchange.had exchange.has ended
+  pub cause : EndHasCause exchange ended
 
 -- the message of a connection was answered
 pub record DeskAnswersExchange {S : Type 0} (g : Ghosts S) (old new : S) (exchange : Exchange)
@@ -104,9 +118,9 @@ pub record NextConnectionIsAnswered {S C : Type 0} (given : Option ℕ) (desk : 
   pub is_given : IfSome given (λ it. exchange.at ≡ it)
   pub came : ClientTaken (connections.coming connections.old)
       (connections.coming connections.new) exchange.given
-  pub unsent : IsUnsent exchange.had
+  pub unsent : IsUnsent (connections.replies connections.old) exchange.had
   pub closed : AddsReply (connections.replies connections.old)
-      (connections.replies connections.new) exchange.has
+      (connections.replies connections.new) exchange.has exchange.faults
   pub answers : DeskAnswersExchange desk.books desk.old desk.new exchange
 
 -- `Holds` of the calls of these exchanges, newest first, and of their answers

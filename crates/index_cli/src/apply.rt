@@ -46,9 +46,8 @@ pub fn apply_lines<S: Source, K: Sink, B: Books>(
         result (TextAnswersLines by_tables T)) }
 
     // By a legal history for which the tables stood: the answers are what this history says.
-    ensures history { ByHistory B.Books desk.old desk.new (λ h. RunEnds
-        (from_source S.Source source.old source.new) (to_sink K.Sink sink.old sink.new)
-        result (HistoryAnswersLines h)) }
+    ensures history { ByHistory B.Books desk.old desk.new (λ h. RunEnds (from_source S.Source
+        source.old source.new) (to_sink K.Sink sink.old sink.new) result (HistoryAnswersLines h)) }
 
     // Also if a fault has shut the store: all lines were answered so, or those up to a fault, after which no call was
     // accepted.

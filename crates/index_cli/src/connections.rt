@@ -1,6 +1,6 @@
 //! Sources of connections.
 ghost use Rattle.std.specs.Prelude.{◌≡◌, IfNone, IfOk, IfSome, OnErr};
-ghost use Rattle.index_cli.specs.Connections.{AddsReply, ClientTaken, IsUnsent, KnownList, Loses};
+ghost use Rattle.index_cli.specs.Connections.{AddsReply, ClientTaken, IsUnsent, KnownList, KnownReplies, Loses};
 
 use index_io::{Failed, Sink, Source};
 
@@ -22,8 +22,8 @@ pub trait Connections {
     /// What the clients of the connections to come send, in order, if that is known.
     ghost coming: { Self → KnownList };
 
-    /// What was sent on the connections that were closed, in order, if that is known.
-    ghost replies: { Self → KnownList };
+    /// What was sent and what failed on the connections that were closed, in order, if that is known.
+    ghost replies: { Self → KnownReplies };
 
     /// Whether a connection is open.
     ghost IsOpen: { Self → Type 0 };
@@ -45,7 +45,9 @@ pub trait Connections {
         ensures first { IfOk result (λ next. IfSome next (λ it.
             ClientTaken (coming self.old) (coming self.new) (Self.ReadHalf.remaining it.source))) }
         ensures unsent { IfOk result (λ next. IfSome next (λ it.
-            IsUnsent (Self.WriteHalf.contents it.sink))) }
+            IsUnsent (replies self.old) (Self.WriteHalf.contents it.sink))) }
+        ensures unfailed { IfOk result (λ next. IfSome next (λ it.
+            (Self.ReadHalf.failures it.source ≡ 0) × (Self.WriteHalf.failures it.sink ≡ 0))) }
         ensures open { IfOk result (λ next. IfSome next (λ it.
             IsOpen self.new × (replies self.new ≡ replies self.old))) }
         ensures lost { IfOk result (λ next. IfNone next (Loses (coming self.old) (coming self.new)
@@ -65,6 +67,9 @@ pub trait Connections {
     ) -> Result<(), Failed>
         requires open { IsOpen self.old }
         ensures closed { AddsReply (replies self.old) (replies self.new)
-            (Self.WriteHalf.contents connection.sink) }
+            (Self.WriteHalf.contents connection.sink) (record {
+              reads = Self.ReadHalf.failures connection.source;
+              writes = Self.WriteHalf.failures connection.sink;
+            }) }
         ensures kept { coming self.new ≡ coming self.old };
 }

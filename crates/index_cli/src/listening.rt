@@ -1,6 +1,6 @@
 //! Connections of a TCP listener.
-ghost use Rattle.std.specs.Prelude.{◌≡◌, ⊤, true, None};
-ghost use Rattle.index_cli.specs.Connections.{AddsReply, unknown};
+ghost use Rattle.std.specs.Prelude.{◌≡◌, ⊤, true, IfSome, None};
+ghost use Rattle.index_cli.specs.Connections.{AddsReply, no_faults, unknown, unknown_replies};
 
 use crate::connections::{Connection, Connections};
 use index_io::{Failed, Input, Output};
@@ -60,7 +60,7 @@ impl Connections for Listening {
 
     ghost coming = { λ _. unknown };
 
-    ghost replies = { λ _. unknown };
+    ghost replies = { λ _. unknown_replies };
 
     ghost IsOpen = { λ _. ⊤ };
 
@@ -84,7 +84,7 @@ impl Connections for Listening {
         &mut self,
         mut connection: Connection<Input<Half>, Output<BufWriter<Half>>>,
     ) -> Result<(), Failed>
-        ensures closed { AddsReply unknown unknown None }
+        ensures closed { AddsReply unknown_replies unknown_replies None no_faults }
         ensures kept { unknown ≡ unknown }
     {
         match connection.sink.writer.flush() {
@@ -123,7 +123,9 @@ impl Write for Half {
 fn connection_over(
     alloc: Global,
     stream: TcpStream,
-) -> Option<Connection<Input<Half>, Output<BufWriter<Half>>>> {
+) -> Option<Connection<Input<Half>, Output<BufWriter<Half>>>>
+    ensures unfailed { IfSome result (λ it. (it.source.failures ≡ 0) × (it.sink.failures ≡ 0)) }
+{
     let Ok(stream) = Rc::new(alloc, stream) else {
         return None;
     };

@@ -11,8 +11,7 @@ use std::alloc::AllocError;
 /// Writes a reply and a line feed: in one write if both fit into `room`, whose old bytes are dropped, or there is
 /// memory for more. The error is the number of bytes that were written.
 pub fn write_line<K: Sink>(sink: &mut K, room: &mut Vec<u8>, reply: LineReply) -> Result<(), usize>
-    ensures { WritesText K.Sink sink.old sink.new
-        (line_reply_text reply ++ line_feed ∷ []) result }
+    ensures { WritesText K.Sink sink.old sink.new (line_reply_text reply ++ line_feed ∷ []) result }
 {
     match gather(room, reply.as_bytes()) {
         Ok(()) => write_bytes(sink, room.as_slice()),

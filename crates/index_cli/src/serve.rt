@@ -46,42 +46,36 @@ pub fn answer_connections<C: Connections, B: CachesAnswers>(
     // By the tables: how many connections were answered, their replies, and the tables after them. If it is known what
     // the clients send and are sent, these are the messages and the replies.
     ensures tables { ByTables B.Books desk.old desk.new (λ T T'. (count : ℕ)
-        × IsCount requests result count
-        × Serves (AreOn C.coming C.replies connections.old connections.new)
-        by_tables at count T T') }
+        × IsCount requests result count × Serves (AreOn C.coming C.replies
+        connections.old connections.new) by_tables at count T T') }
 
     // By a legal history for which the tables stood: the replies are what this history says, and the tables stand for
     // it with the accepted calls.
     ensures history { ByHistory B.Books desk.old desk.new (λ h T. (count : ℕ)
-        × IsCount requests result count
-        × ServesByHistory (AreOn C.coming C.replies connections.old connections.new)
-        h at count T) }
+        × IsCount requests result count × ServesByHistory (AreOn C.coming C.replies
+        connections.old connections.new) h at count T) }
 
     // Also if a fault has shut the store: all connections were answered so, or those up to one that shows a failure,
     // after which no call was accepted.
     ensures told { FrontByTables B.Books desk.old desk.new (λ T. (count : ℕ)
-        × IsCount requests result count
-        × ServesFirst (AreOn C.coming C.replies connections.old connections.new)
-        by_tables at count T) }
+        × IsCount requests result count × ServesFirst (AreOn C.coming C.replies
+        connections.old connections.new) by_tables at count T) }
 
     // By a legal history for which the tables stood: the replies up to a fault are what this history says.
     ensures told_history { FrontByHistory B.Books desk.old desk.new (λ h T. (count : ℕ)
-        × IsCount requests result count
-        × ServesFirst (AreOn C.coming C.replies connections.old connections.new)
-        by_history at count h) }
+        × IsCount requests result count × ServesFirst (AreOn C.coming C.replies
+        connections.old connections.new) by_history at count h) }
 
     // A crash leaves the tables after the accepted calls of answered connections, or after these and one call that was
     // answered with a fault after the last of them; also if a fault has shut the store.
     ensures crash { CrashByTables B.Books desk.old desk.new (λ T T'. (count : ℕ)
-        × IsCount requests result count
-        × ServesFirst (LeavingTables (AreOn C.coming C.replies connections.old connections.new)
-        (CallsLeaveTables T) T') by_tables at count T) }
+        × IsCount requests result count × ServesFirst (LeavingTables (AreOn C.coming C.replies
+        connections.old connections.new) (CallsLeaveTables T) T') by_tables at count T) }
 
     // The tables that a crash leaves stand for a legal history with the same calls.
     ensures crash_history { CrashByHistory B.Books desk.old desk.new (λ h T. (count : ℕ)
-        × IsCount requests result count
-        × ServesFirst (LeavingTables (AreOn C.coming C.replies connections.old connections.new)
-        (CallsLeaveHistory h) T) by_history at count h) }
+        × IsCount requests result count × ServesFirst (LeavingTables (AreOn C.coming C.replies
+        connections.old connections.new) (CallsLeaveHistory h) T) by_history at count h) }
 
     // However it ends: at most one user has a token's digest, and charges that add up still add up.
     ensures keeps { KeepsInvariants B.Books desk.old desk.new }
@@ -150,13 +144,14 @@ fn answer_accepted<C: Connections, B: CachesAnswers>(
     at: u64,
 ) -> Result<(), IoEnd>
     requires open { C.IsOpen connections.old }
-    ensures answered { (has : _)
-        × AddsReply (C.replies connections.old) (C.replies connections.new) has
+    ensures answered { (has : _) × (faults : _)
+        × AddsReply (C.replies connections.old) (C.replies connections.new) has faults
         × DeskAnswersExchange B.Books desk.old desk.new (record {
           at = at;
           given = C.ReadHalf.remaining connection.source;
           had = C.WriteHalf.contents connection.sink;
           has = has;
+          faults = faults;
         }) }
     ensures kept { C.coming connections.new ≡ C.coming connections.old }
 {
@@ -245,6 +240,7 @@ fn answer_message<S: Source, K: Sink, B: CachesAnswers>(
       given = S.remaining source.old;
       had = K.contents sink.old;
       has = K.contents sink.new;
+      faults = record { reads = S.failures source.new; writes = K.failures sink.new };
     }) }
 {
     answer_one(alloc, site, source, sink, desk, at)

@@ -5,7 +5,7 @@ ghost use Rattle.index_desk.specs.Rules.{by_tables};
 ghost use Rattle.index_desk.specs.Takes.{ByTables};
 ghost use Rattle.index_cli.specs.Connections.{AddsReply};
 ghost use Rattle.index_cli.specs.Serving.{IsCount, Serves};
-ghost use Rattle.index_fault_tests.specs.Clients.{AreNamed};
+ghost use Rattle.index_fault_tests.specs.Clients.{AreNamed, IsNew, sent_on};
 
 use super::fakes::{BooksCall, FailingBooks};
 use super::new_books;
@@ -22,13 +22,16 @@ use std::slice;
 /// A message, and the whole reply to it.
 type Exchange = (&'static str, &'static str);
 
-/// Clients that each send their message and no more, in order. Their replies are kept, so a clause of a run over them
-/// names each message and its reply. For one of them there may be no memory. After the last none can be accepted.
+/// The connection of a client.
+type Client = Connection<Input<&'static [u8]>, Output<Vec<u8>>>;
+
+/// Clients that each send their message and no more, in order. Their connections are kept, so a clause of a run over
+/// them names each message and its reply. For one of them there may be no memory. After the last none can be accepted.
 struct Clients<'a, R: Abort> {
     rt: &'a R,
     coming: slice::Iter<'a, Exchange>,
     without_memory: Option<usize>,
-    replies: Vec<Vec<u8>>,
+    closed: Vec<Client>,
 }
 
 impl<R: Abort> Drop for Clients<'_, R> {
@@ -37,23 +40,34 @@ impl<R: Abort> Drop for Clients<'_, R> {
             rt: _rt,
             coming: _coming,
             without_memory: _without_memory,
-            replies: _replies,
+            closed: _closed,
         } = self;
     }
 }
 
 impl<R: Abort> Clients<'_, R> {
-    /// Keeps the reply of one more connection.
-    fn keep(&mut self, reply: Vec<u8>)
-        ensures reply { self.new.replies.items ≡ self.old.replies.items ++ reply ∷ [] }
+    /// Keeps one more connection.
+    fn keep(&mut self, client: Client)
+        ensures client { self.new.closed.items ≡ self.old.closed.items ++ client.entry ∷ [] }
         ensures coming { self.new.coming ≡ self.old.coming }
     {
-        self.replies.push(reply).expect(self.rt, "room");
+        self.closed.push(client).expect(self.rt, "room");
+    }
+}
+
+/// The connection of a client that sends this message.
+fn client_of(rt: &HostRuntime, message: &'static str) -> Client
+    ensures { IsNew message.now result }
+{
+    Connection {
+        source: Input::new(message.as_bytes()),
+        sink: Output::new(Vec::new(rt.alloc())),
     }
 }
 
 impl<R: Abort> Connections for Clients<'_, R> {
     ghost use Rattle.std.specs.Prelude.{◌≡◌, [], map, Some, ⊤};
+    ghost use Rattle.index_fault_tests.specs.Clients.{sent_on};
 
     type ReadHalf = Input<&'static [u8]>;
 
@@ -61,7 +75,7 @@ impl<R: Abort> Connections for Clients<'_, R> {
 
     ghost coming = { λ clients. Some (map (λ exchange. exchange.0.now) (iter_rest clients.coming)) };
 
-    ghost replies = { λ clients. Some (map (λ reply. reply.items) clients.replies.items) };
+    ghost replies = { λ clients. Some (map sent_on clients.closed.items) };
 
     ghost IsOpen = { λ _. ⊤ };
 
@@ -75,31 +89,24 @@ impl<R: Abort> Connections for Clients<'_, R> {
         let Some((message, _)) = self.coming.next() else {
             return Err(Failed);
         };
-        if self.without_memory == Some(self.replies.len()) {
-            self.keep(Vec::new(rt.alloc()));
+        let client = client_of(rt, message);
+        if self.without_memory == Some(self.closed.len()) {
+            self.keep(client);
             return Ok(None);
         }
-        Ok(Some(Connection {
-            source: Input::new(message.as_bytes()),
-            sink: Output::new(Vec::new(rt.alloc())),
-        }))
+        Ok(Some(client))
     }
 
     fn close(
         &mut self,
         connection: Connection<Input<&'static [u8]>, Output<Vec<u8>>>,
     ) -> Result<(), Failed>
-        ensures closed { AddsReply (Some (map (λ reply. reply.items) self.old.replies.items))
-            (Some (map (λ reply. reply.items) self.new.replies.items))
-            (Some connection.entry.sink.writer.items) }
-        ensures kept { Some (map (λ exchange. exchange.0.now) (iter_rest self.new.coming))
-            ≡ Some (map (λ exchange. exchange.0.now) (iter_rest self.old.coming)) }
+        ensures closed { AddsReply (Some (map sent_on self.old.closed.items))
+            (Some (map sent_on self.new.closed.items))
+            (Some connection.entry.sink.writer.items) (sent_on connection.entry).faults }
+        ensures kept { iter_rest self.new.coming ≡ iter_rest self.old.coming }
     {
-        let Connection {
-            source: _source,
-            sink,
-        } = connection;
-        self.keep(sink.writer);
+        self.keep(connection);
         Ok(())
     }
 }
@@ -112,12 +119,11 @@ fn answer_clients<R: Abort, B: CachesAnswers>(
     site: &Site,
     desk: &mut Desk<B>,
 ) -> Result<(), ServeEnd>
-    requires new { clients.old.replies.items ≡ [] }
+    requires new { clients.old.closed.items ≡ [] }
     // By the tables: the messages of these clients were answered, and their replies were sent.
-    ensures named { ByTables B.Books desk.old desk.new (λ T T'. (count : ℕ)
-        × IsCount requests result count
-        × Serves (AreNamed (map (λ it. it.0.now) (iter_rest clients.old.coming))
-        (map (λ it. it.items) clients.new.replies.items)) by_tables (Some 2) count T T') }
+    ensures named { ByTables B.Books desk.old desk.new (λ T T'. (count : ℕ) × IsCount requests
+        result count × Serves (AreNamed (map (λ it. it.0.now) (iter_rest clients.old.coming)) (map
+        sent_on clients.new.closed.items)) by_tables (Some 2) count T T') }
 {
     answer_connections(host, clients, requests, Some(2), site, desk)
 }
@@ -282,19 +288,21 @@ fn assert_run<R: Abort + AllocGlobal, B: CachesAnswers + Drop>(
         rt,
         coming: run.exchanges.iter(),
         without_memory: run.without_memory,
-        replies: Vec::new(rt.alloc()),
+        closed: Vec::new(rt.alloc()),
     };
     let ended = answer_clients(host, &mut clients, run.requests, &site, &mut desk);
     assert!(rt; ended == run.ended);
-    assert_eq!(rt; clients.replies.len(), run.replied);
-    assert_replies(rt, clients.replies.as_slice(), run.exchanges);
+    assert_eq!(rt; clients.closed.len(), run.replied);
+    assert_replies(rt, clients.closed.as_slice(), run.exchanges);
 }
 
-/// These are the replies to the first of these messages.
-fn assert_replies(rt: &impl Abort, replies: &[Vec<u8>], exchanges: &[Exchange]) {
-    for (told, (message, reply)) in replies.iter().zip(exchanges) {
-        let is_reply = told.as_slice() == reply.as_bytes();
+/// The replies to the first of these messages were sent to these clients, and no read or write failed.
+fn assert_replies(rt: &impl Abort, closed: &[Client], exchanges: &[Exchange]) {
+    for (client, (message, reply)) in closed.iter().zip(exchanges) {
+        let is_reply = client.sink.writer.as_slice() == reply.as_bytes();
         assert!(rt; is_reply, "{message}");
+        assert_eq!(rt; client.source.failures, 0);
+        assert_eq!(rt; client.sink.failures, 0);
     }
 }
 
