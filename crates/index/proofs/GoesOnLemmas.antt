@@ -29,31 +29,23 @@ use Rattle.index_rules.specs.Laws.{IsFrontOf}
 use Rattle.index_rules.specs.Legal.{IsLegal, history_after}
 use Rattle.index_rules.specs.Maps.{Bytes}
 use Rattle.index_rules.specs.Tables.{Tables}
-use Rattle.index_rules.proofs.ServeLemmas.{serves_bound}
 use Rattle.index.specs.declared.end.End.{End}
 use Rattle.index.specs.Chains.{Carries, ComesByRun, ComesByRuns, KeepsSome, LeadTo, LeadsOn, MayBecome, MayCarry}
 use Rattle.index.specs.Chains.{Run, CreatedRun, InitRun, EndedRun, CutRun, UnusedRun}
-use Rattle.index.specs.GoesOn.{BindServed, GoesOn, StandOn}
+use Rattle.index.specs.GoesOn.{GoesOn, StandOn}
 use Rattle.index.proofs.ChainLemmas.{stand_by_runs}
 use Rattle.std.proofs.Math.Logic.{∥∥₁_map}
 use Rattle.index.specs.Runs.{HoldsNone}
 use Rattle.index.specs.Tasks.{AreAmong, Task, AnswerLines, AnswerConnections, WriteReport, CountWrong}
+use Rattle.index.proofs.ServedLemmas.{itself, served_bound}
 use Rattle.index.proofs.ThereLemmas.{current_is_there}
 
 -- ---- fronts
-
-itself : (h : History) → IsFrontOf h h
-itself (begins user token) = refl
-itself (more h e) = inl refl
 
 longer : (a b c : History) → IsFrontOf a b → IsFrontOf b c → IsFrontOf a c
 longer a b (begins user token) front is = subst (IsFrontOf a) is front
 longer a b (more h e) front (inl is) = subst (IsFrontOf a) is front
 longer a b (more h e) front (inr earlier) = inr (longer a b h front earlier)
-
--- what was served is bound
-served_bound : (h : History) → IsLegal h → (one : History) → IsFrontOf one h → BindServed one h
-served_bound h legal one front = serves_bound h legal one h front (itself h)
 
 as_is : (h h' : History) → h' ≡ h → IsFrontOf h h'
 as_is h h' is = subst (IsFrontOf h) (sym is) (itself h)

@@ -8,6 +8,7 @@ pub mod OfficeLemmas
 pub mod OpeningLemmas
 pub mod RoundLemmas
 pub mod RunLemmas
+pub mod ServedLemmas
 pub mod ThereLemmas
 pub mod WrongLemmas
 pub mod WrongLines

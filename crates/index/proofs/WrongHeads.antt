@@ -16,7 +16,7 @@ rest_of [] = []
 rest_of (x ∷ xs) = xs
 
 -- the three digits of a status
-abbrev digits_of : ℕ → List ℕ
+abbrev pub digits_of : ℕ → List ℕ
 digits_of n = (48 + n / 100) ∷ (48 + n / 10 % 10) ∷ (48 + n % 10) ∷ []
 
 -- what is behind the version of a head
@@ -28,7 +28,7 @@ unfolding reply_head head_text
 digits_in status fields size = refl
 
 -- the digits of a status
-same_digits : (status other : ℕ) → status < 1000 → other < 1000 → digits_of other ≡ digits_of status → other ≡ status
+pub same_digits : (status other : ℕ) → status < 1000 → other < 1000 → digits_of other ≡ digits_of status → other ≡ status
 same_digits status other low below same =
     let hundreds : 48 + other / 100 ≡ 48 + status / 100 = ap first_of same in
     let tens : 48 + other / 10 % 10 ≡ 48 + status / 10 % 10 = ap (λ (it : List ℕ). first_of (rest_of it)) same in

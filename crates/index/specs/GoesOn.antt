@@ -1,20 +1,47 @@
 -- Runs carry the history on: none of them begins it again.
-use Rattle.std.specs.Prelude.{◌≡◌, List, Some, length}
+use Rattle.std.specs.Prelude.{◌≡◌, List, false, length, ℕ}
 use Rattle.sqlite.specs.Recovery.{Image}
 use Rattle.index_digest.specs.Digest.{sha256}
+use Rattle.index_io.specs.Counts.{HasFailed}
+use Rattle.index_message.specs.Fields.{Field}
+use Rattle.index_message.specs.Requests.{HttpRequest}
+use Rattle.index_message.specs.declared.message.Message.TheVariants.{Whole}
+use Rattle.index_message.specs.declared.resource.Method.TheVariants.{Get}
+use Rattle.index_message.specs.declared.resource.Resource.TheVariants.{File}
 use Rattle.index_rules.specs.History.{History}
 use Rattle.index_rules.specs.Laws.{IsFrontOf}
 use Rattle.index_rules.specs.Legal.{IsLegal}
 use Rattle.index_rules.specs.Maps.{Bytes}
-use Rattle.index_rules.specs.StandsFor.{StandsFor, body_after}
+use Rattle.index_rules.specs.StandsFor.{StandsFor}
 use Rattle.index_rules.specs.Tables.{Tables}
+use Rattle.index_desk.specs.Rules.{by_history}
+use Rattle.index_http.specs.Exchanges.{MessageGetsText}
+use Rattle.index_http.specs.Replies.{file_reply, reply_text}
 use Rattle.index.specs.Chains.{ComesByRuns, LeadTo, Run}
 use Rattle.index.specs.Runs.{FindsOnly, Holds, HoldsNone}
 
--- if both histories serve a file name, the bytes have the same digest and size
+-- a `GET` of a file name
+abbrev pub get_of_file : Bytes → List Field → HttpRequest
+get_of_file file fields = record { method = Get; resource = File file; fields = fields }
+
+-- at this point of the history, a `GET` of a file name may get the reply with status 200 and these
+-- bytes
+pub record ServesFile (h : History) (file bytes : Bytes) : Type 0 where
+  -- the moment of the connection, the header lines and the body of the request
+  pub at : ℕ
+  pub fields : List Field
+  pub sent : Bytes
+  -- how many calls of the store failed before and after it
+  pub failures : ℕ
+  pub later_failures : ℕ
+  pub later : History
+  pub replies : MessageGetsText by_history (HasFailed failures later_failures) at h
+      (Whole (get_of_file file fields) sent) (reply_text false (file_reply bytes)) later
+
+-- if a file name is served at both points, the bytes have the same digest and size
 abbrev pub BindServed : History → History → Type 0
 BindServed one other =
-    (f first second : Bytes) → body_after one f ≡ Some first → body_after other f ≡ Some second
+    (file first second : Bytes) → ServesFile one file first → ServesFile other file second
     → (sha256 first ≡ sha256 second) × (length first ≡ length second)
 
 -- If the first files hold some part of an index, the last ones do after any runs. A history that
