@@ -11,3 +11,5 @@ pub mod FaultTexts
 pub mod Fronts
 pub mod Served
 pub mod ServedFronts
+pub mod DeskConnections
+pub mod DeskLines

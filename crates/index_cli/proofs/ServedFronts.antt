@@ -149,13 +149,13 @@ one_history h legal T T' stands exchange one =
     }
 
 -- connections that were answered, by a history
-record EachHistory (h : History) (exchanges : List Exchange) (T' : Tables) : Type 0 where
-  later : History
-  answers : ExchangesAreAnswered by_history exchanges h later
-  legal : IsLegal later
-  stands : StandsFor T' later
+pub record EachHistory (h : History) (exchanges : List Exchange) (T' : Tables) : Type 0 where
+  pub later : History
+  pub answers : ExchangesAreAnswered by_history exchanges h later
+  pub legal : IsLegal later
+  pub stands : StandsFor T' later
 
-each_history : (h : History) → IsLegal h → (T : Tables) → StandsFor T h → (exchanges : List Exchange) (T' : Tables)
+pub each_history : (h : History) → IsLegal h → (T : Tables) → StandsFor T h → (exchanges : List Exchange) (T' : Tables)
     → ExchangesAreAnswered by_tables exchanges T T' → EachHistory h exchanges T'
 each_history h legal T stands [] T' same = record { later = h; answers = refl; legal = legal; stands = subst (λ x. StandsFor x h) (sym same) stands }
 each_history h legal T stands (exchange ∷ earlier) T' (between, each, one) =

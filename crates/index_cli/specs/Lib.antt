@@ -11,4 +11,5 @@ pub mod Replies
 pub mod Causes
 pub mod Serving
 pub mod ServesFront
+pub mod DeskAnswers
 pub mod Printed

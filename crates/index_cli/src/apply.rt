@@ -1,17 +1,11 @@
 //! Answers to the lines of an input.
 ghost use Rattle.std.specs.Prelude.{ℕ};
-ghost use Rattle.index_desk.specs.Crashes.{CallsLeaveHistory, CallsLeaveTables};
 ghost use Rattle.index_desk.specs.Invariants.{KeepsInvariants};
-ghost use Rattle.index_desk.specs.Rules.{by_history, by_tables};
-ghost use Rattle.index_desk.specs.Takes.{ByHistory, ByTables, CrashByHistory, CrashByTables};
-ghost use Rattle.index_http.specs.Steps.{to_sink};
+ghost use Rattle.index_http.specs.Steps.{at_desk, to_sink};
 ghost use Rattle.index_cli.specs.Causes.{HaveCounted, HaveFailed, LinesReportFaults};
+ghost use Rattle.index_cli.specs.DeskAnswers.{DeskAnswersLines};
 ghost use Rattle.index_cli.specs.Ends.{RunEnds, RunFailsOnly};
 ghost use Rattle.index_cli.specs.Lines.{Charges};
-ghost use Rattle.index_cli.specs.Telling.{TextAnswersLines};
-ghost use Rattle.index_cli.specs.LineCalls.{LineCallsLeave};
-ghost use Rattle.index_cli.specs.LineFronts.{FrontByHistory, FrontByTables, TextAnswersFront};
-ghost use Rattle.index_cli.specs.LineHistories.{HistoryAnswersLines};
 ghost use Rattle.index_message.specs.Reads.{from_source};
 
 use crate::end::LineEnd;
@@ -40,36 +34,10 @@ pub fn apply_lines<S: Source, K: Sink, B: Books>(
     sink: &mut K,
     desk: &mut Desk<B>,
 ) -> Result<u64, LineEnd>
-    // By the tables: the lines that were answered at each end, and their answers.
-    ensures tables { ByTables B.Books desk.old desk.new (λ T. RunEnds
-        (from_source S.Source source.old source.new) (to_sink K.Sink sink.old sink.new)
-        result (TextAnswersLines by_tables T)) }
-
-    // By a legal history for which the tables stood: the answers are what this history says.
-    ensures history { ByHistory B.Books desk.old desk.new (λ h. RunEnds (from_source S.Source
-        source.old source.new) (to_sink K.Sink sink.old sink.new) result (HistoryAnswersLines h)) }
-
-    // Also if a fault has shut the store: all lines were answered so, or those up to a fault, after which no call was
-    // accepted.
-    ensures told { FrontByTables B.Books desk.old desk.new (λ T. RunEnds
-        (from_source S.Source source.old source.new) (to_sink K.Sink sink.old sink.new)
-        result (TextAnswersFront by_tables T) T) }
-
-    // By a legal history for which the tables stood: the answers up to a fault are what this history says.
-    ensures told_history { FrontByHistory B.Books desk.old desk.new (λ h T. RunEnds
-        (from_source S.Source source.old source.new) (to_sink K.Sink sink.old sink.new)
-        result (TextAnswersFront by_history h) T) }
-
-    // A crash leaves the tables after the accepted calls, or after these and one call that was answered with a fault
-    // after the last of them; also if a fault has shut the store.
-    ensures crash { CrashByTables B.Books desk.old desk.new (λ T. RunEnds
-        (from_source S.Source source.old source.new) (to_sink K.Sink sink.old sink.new)
-        result (LineCallsLeave (CallsLeaveTables T))) }
-
-    // The tables that a crash leaves stand for a legal history with the same calls.
-    ensures crash_history { CrashByHistory B.Books desk.old desk.new (λ h. RunEnds
-        (from_source S.Source source.old source.new) (to_sink K.Sink sink.old sink.new)
-        result (LineCallsLeave (CallsLeaveHistory h))) }
+    // The answers and the tables, by the tables before and by each legal history of them; up to a fault, if one has shut
+    // the store; and what a crash leaves.
+    ensures answers { DeskAnswersLines (at_desk B.Books desk.old desk.new) (RunEnds
+        (from_source S.Source source.old source.new) (to_sink K.Sink sink.old sink.new) result) }
 
     // Each fault of the store that a line reports has a call of the store that failed.
     ensures store { (faults : ℕ) × HaveFailed faults (B.failures desk.old) (B.failures desk.new)

@@ -2,18 +2,13 @@
 ghost use Rattle.std.specs.Duration.{as_nanos};
 ghost use Rattle.std.specs.Prelude.{◌≡◌, ◌≢◌, ◌<◌, ◌/◌, true, ℕ, Err, None};
 ghost use Rattle.std.specs.Prelude.{IfErr, IfOk, IfSome, IsErrOf, OnErr, OnOk};
-ghost use Rattle.index_desk.specs.Crashes.{CallsLeaveHistory, CallsLeaveTables};
 ghost use Rattle.index_desk.specs.Invariants.{KeepsInvariants};
 ghost use Rattle.index_desk.specs.Looks.{LeavesTables};
-ghost use Rattle.index_desk.specs.Rules.{by_history, by_tables};
-ghost use Rattle.index_desk.specs.Takes.{ByHistory, ByTables, CrashByHistory, CrashByTables};
 ghost use Rattle.index_cli.specs.Connections.{AddsReply, AreOn, IsRest};
 ghost use Rattle.index_http.specs.Steps.{at_desk};
-ghost use Rattle.index_cli.specs.ServesFront.{LeavingTables, ServesFirst};
+ghost use Rattle.index_cli.specs.DeskAnswers.{DeskAnswersConnections};
 ghost use Rattle.index_cli.specs.Serving.{DeskAnswersExchange, IsCount, NextConnectionIsAnswered};
-ghost use Rattle.index_cli.specs.Serving.{ServesByHistory, Serves};
 ghost use Rattle.index_cli.specs.Steps.{on_connections};
-ghost use Rattle.index_cli.specs.LineFronts.{FrontByHistory, FrontByTables};
 
 use crate::connections::{Connection, Connections};
 use crate::end::ServeEnd;
@@ -43,39 +38,10 @@ pub fn answer_connections<C: Connections, B: CachesAnswers>(
     site: &Site,
     desk: &mut Desk<B>,
 ) -> Result<(), ServeEnd>
-    // By the tables: how many connections were answered, their replies, and the tables after them. If it is known what
-    // the clients send and are sent, these are the messages and the replies.
-    ensures tables { ByTables B.Books desk.old desk.new (λ T T'. (count : ℕ)
-        × IsCount requests result count × Serves (AreOn C.coming C.replies
-        connections.old connections.new) by_tables at count T T') }
-
-    // By a legal history for which the tables stood: the replies are what this history says, and the tables stand for
-    // it with the accepted calls.
-    ensures history { ByHistory B.Books desk.old desk.new (λ h T. (count : ℕ)
-        × IsCount requests result count × ServesByHistory (AreOn C.coming C.replies
-        connections.old connections.new) h at count T) }
-
-    // Also if a fault has shut the store: all connections were answered so, or those up to one that shows a failure,
-    // after which no call was accepted.
-    ensures told { FrontByTables B.Books desk.old desk.new (λ T. (count : ℕ)
-        × IsCount requests result count × ServesFirst (AreOn C.coming C.replies
-        connections.old connections.new) by_tables at count T) }
-
-    // By a legal history for which the tables stood: the replies up to a fault are what this history says.
-    ensures told_history { FrontByHistory B.Books desk.old desk.new (λ h T. (count : ℕ)
-        × IsCount requests result count × ServesFirst (AreOn C.coming C.replies
-        connections.old connections.new) by_history at count h) }
-
-    // A crash leaves the tables after the accepted calls of answered connections, or after these and one call that was
-    // answered with a fault after the last of them; also if a fault has shut the store.
-    ensures crash { CrashByTables B.Books desk.old desk.new (λ T T'. (count : ℕ)
-        × IsCount requests result count × ServesFirst (LeavingTables (AreOn C.coming C.replies
-        connections.old connections.new) (CallsLeaveTables T) T') by_tables at count T) }
-
-    // The tables that a crash leaves stand for a legal history with the same calls.
-    ensures crash_history { CrashByHistory B.Books desk.old desk.new (λ h T. (count : ℕ)
-        × IsCount requests result count × ServesFirst (LeavingTables (AreOn C.coming C.replies
-        connections.old connections.new) (CallsLeaveHistory h) T) by_history at count h) }
+    // The replies and the tables, by the tables before and by each legal history of them; up to a fault, if one has shut
+    // the store; and what a crash leaves.
+    ensures answers { DeskAnswersConnections (at_desk B.Books desk.old desk.new)
+        (AreOn C.coming C.replies connections.old connections.new) at (IsCount requests result) }
 
     // However it ends: at most one user has a token's digest, and charges that add up still add up.
     ensures keeps { KeepsInvariants B.Books desk.old desk.new }

@@ -1,12 +1,12 @@
 use Rattle.std.proofs.Common.{◌≡◌, ◌≢◌, ◌∙◌, ◌+◌, inl, inr, refl, Ok, Err, arith, rules}
-use Rattle.index_rules.proofs.StandsOn.{sound_when_legal}
 use Rattle.index_desk.proofs.InvariantLemmas.{keeps_on}
 use Rattle.index_cli.specs.declared.end.LineEnd.TheVariants.{ReadFault, WriteFault}
 use Rattle.index_cli.proofs.Calls.{taken_none}
 use Rattle.index_cli.proofs.CauseLemmas.{HaveFailed-push, counted_push, faults_before, faults_push, none_failed}
-use Rattle.index_cli.proofs.Crashes.{lines_crash, lines_crash_history, lines_history, taken_push}
+use Rattle.index_cli.proofs.Crashes.{lines_crash, taken_push}
+use Rattle.index_cli.proofs.DeskLines.{desk_answers_lines}
 use Rattle.index_cli.proofs.Cuts.{Charges-trans, PartIsTaken-none}
-use Rattle.index_cli.proofs.Fronts.{front_none, front_push, lines_front, lines_front_history}
+use Rattle.index_cli.proofs.Fronts.{front_none, front_push, lines_front}
 use Rattle.index_cli.proofs.Progress.{Progress-during, Progress-none, Progress-part, Progress-push, Progress-taken, Progress-whole, lines_push}
 use Rattle.index_cli.proofs.RunEnds.{LinesEnd-before, failed_or_spent}
 use Rattle.index_cli.proofs.apply.apply_lines.Goals as goal
@@ -29,45 +29,28 @@ loop-count-init g c = record {
 
 -- ---- no line was read
 
-pub returns-in_err-size-clause-tables : goal.returns-in_err-size-clause-tables
-returns-in_err-size-clause-tables g c = λ honest one.
+pub returns-in_err-size-clause-answers : goal.returns-in_err-size-clause-answers
+returns-in_err-size-clause-answers g c =
+    desk_answers_lines g.B.Books _ _ _ _ _ _ c.from_residual.result
+    (λ honest one.
     let is : c.from_residual.result ≡ Err c.in_err-size.field-0.0 = search rules in
     let other : c.from_residual.result ≢ Err WriteFault = search rules in
     LinesEnd-before _ _ _ _ _ _ c.from_residual.result c.in_err-size.field-0.0 is other
-    (Progress-part _ _ _ _ _ _ _ _ (c.loop-count.invariant.progress honest one) c.in_err-size.ensures.part)
-
-pub returns-in_err-size-clause-history : goal.returns-in_err-size-clause-history
-returns-in_err-size-clause-history g c = λ honest h legal stands.
-    lines_history h legal _ stands _ _ _ _ _ _
-    (returns-in_err-size-clause-tables g c honest (sound_when_legal h legal _ stands).one_bearer)
-
-pub returns-in_err-size-clause-told : goal.returns-in_err-size-clause-told
-returns-in_err-size-clause-told g c = λ honest clean one.
+    (Progress-part _ _ _ _ _ _ _ _ (c.loop-count.invariant.progress honest one) c.in_err-size.ensures.part))
+    (λ honest clean one.
     let is : c.from_residual.result ≡ Err c.in_err-size.field-0.0 = search rules in
     let other : c.from_residual.result ≢ Err WriteFault = search rules in
     let B = g.B.Books in
     lines_front B _ _ honest clean one _ _ _ _ _ _ _
     (LinesEnd-before _ _ _ _ _ _ c.from_residual.result c.in_err-size.field-0.0 is other
-    (Progress-part _ _ _ _ _ _ _ _ c.loop-count.invariant.fronts c.in_err-size.ensures.part))
-
-pub returns-in_err-size-clause-told_history : goal.returns-in_err-size-clause-told_history
-returns-in_err-size-clause-told_history g c = λ honest clean h legal stands.
-    lines_front_history h legal _ stands _ _ _ _ _ _
-    (returns-in_err-size-clause-told g c honest clean (sound_when_legal h legal _ stands).one_bearer)
-
-pub returns-in_err-size-clause-crash : goal.returns-in_err-size-clause-crash
-returns-in_err-size-clause-crash g c = λ honest clean one T left.
+    (Progress-part _ _ _ _ _ _ _ _ c.loop-count.invariant.fronts c.in_err-size.ensures.part)))
+    (λ honest clean one T left.
     let is : c.from_residual.result ≡ Err c.in_err-size.field-0.0 = search rules in
     let other : c.from_residual.result ≢ Err WriteFault = search rules in
     let B = g.B.Books in
     lines_crash B _ _ honest clean one T left _ _ _ _ _ _
     (LinesEnd-before _ _ _ _ _ _ c.from_residual.result c.in_err-size.field-0.0 is other
-    (Progress-part _ _ _ _ _ _ _ _ c.loop-count.invariant.called c.in_err-size.ensures.part))
-
-pub returns-in_err-size-clause-crash_history : goal.returns-in_err-size-clause-crash_history
-returns-in_err-size-clause-crash_history g c = λ honest clean h legal stands T left.
-    lines_crash_history h legal _ stands T _ _ _ _ _
-    (returns-in_err-size-clause-crash g c honest clean (sound_when_legal h legal _ stands).one_bearer T left)
+    (Progress-part _ _ _ _ _ _ _ _ c.loop-count.invariant.called c.in_err-size.ensures.part)))
 
 pub returns-in_err-size-clause-fails : goal.returns-in_err-size-clause-fails
 returns-in_err-size-clause-fails g c = record {
@@ -108,39 +91,22 @@ returns-in_err-size-clause-stores g c =
 
 -- ---- there was none
 
-pub returns-in_default-clause-tables : goal.returns-in_default-clause-tables
-returns-in_default-clause-tables g c = λ honest one.
+pub returns-in_default-clause-answers : goal.returns-in_default-clause-answers
+returns-in_default-clause-answers g c =
+    desk_answers_lines g.B.Books _ _ _ _ _ _ (Ok _)
+    (λ honest one.
     let end = rw c.in_default.is at c.in_ok-size.ensures.line in
-    Progress-whole _ _ _ _ _ _ _ _ (c.loop-count.invariant.progress honest one) end.0 end.1
-
-pub returns-in_default-clause-history : goal.returns-in_default-clause-history
-returns-in_default-clause-history g c = λ honest h legal stands.
-    lines_history h legal _ stands _ _ _ _ _ (Ok _)
-    (returns-in_default-clause-tables g c honest (sound_when_legal h legal _ stands).one_bearer)
-
-pub returns-in_default-clause-told : goal.returns-in_default-clause-told
-returns-in_default-clause-told g c = λ honest clean one.
+    Progress-whole _ _ _ _ _ _ _ _ (c.loop-count.invariant.progress honest one) end.0 end.1)
+    (λ honest clean one.
     let end = rw c.in_default.is at c.in_ok-size.ensures.line in
     let B = g.B.Books in
     lines_front B _ _ honest clean one _ _ _ _ _ _ (Ok _)
-    (Progress-whole _ _ _ _ _ _ _ _ c.loop-count.invariant.fronts end.0 end.1)
-
-pub returns-in_default-clause-told_history : goal.returns-in_default-clause-told_history
-returns-in_default-clause-told_history g c = λ honest clean h legal stands.
-    lines_front_history h legal _ stands _ _ _ _ _ (Ok _)
-    (returns-in_default-clause-told g c honest clean (sound_when_legal h legal _ stands).one_bearer)
-
-pub returns-in_default-clause-crash : goal.returns-in_default-clause-crash
-returns-in_default-clause-crash g c = λ honest clean one T left.
+    (Progress-whole _ _ _ _ _ _ _ _ c.loop-count.invariant.fronts end.0 end.1))
+    (λ honest clean one T left.
     let end = rw c.in_default.is at c.in_ok-size.ensures.line in
     let B = g.B.Books in
     lines_crash B _ _ honest clean one T left _ _ _ _ _ (Ok _)
-    (Progress-whole _ _ _ _ _ _ _ _ c.loop-count.invariant.called end.0 end.1)
-
-pub returns-in_default-clause-crash_history : goal.returns-in_default-clause-crash_history
-returns-in_default-clause-crash_history g c = λ honest clean h legal stands T left.
-    lines_crash_history h legal _ stands T _ _ _ _ (Ok _)
-    (returns-in_default-clause-crash g c honest clean (sound_when_legal h legal _ stands).one_bearer T left)
+    (Progress-whole _ _ _ _ _ _ _ _ c.loop-count.invariant.called end.0 end.1))
 
 pub returns-in_default-clause-store : goal.returns-in_default-clause-store
 returns-in_default-clause-store g c =
@@ -156,49 +122,34 @@ returns-in_default-clause-stores g c =
 
 -- ---- memory ran out for a reply
 
-pub returns-in_err-reply-clause-tables : goal.returns-in_err-reply-clause-tables
-returns-in_err-reply-clause-tables g c = λ honest one.
+pub returns-in_err-reply-clause-answers : goal.returns-in_err-reply-clause-answers
+returns-in_err-reply-clause-answers g c =
+    desk_answers_lines g.B.Books c.args.desk.now c.reply_to.new.desk
+    (g.S.Source.remaining c.args.source.now) (g.S.Source.remaining c.next_line.new.source)
+    (g.K.Sink.contents c.args.sink.now) (g.K.Sink.contents c.loop-count.sink) c.from_residual-in_err-reply.result
+    (λ honest one.
     let is : c.from_residual-in_err-reply.result ≡ Err c.in_err-reply.field-0.0 = search rules in
     let other : c.from_residual-in_err-reply.result ≢ Err WriteFault = search rules in
     LinesEnd-before _ _ _ _ _ _ c.from_residual-in_err-reply.result c.in_err-reply.field-0.0 is other
     (rw (c.in_err-reply.ensures.leaves.unchanged honest)
     (Progress-taken _ _ _ _ _ _ _ _ c.in-Some.size _ (c.loop-count.invariant.progress (c.reply_to.ensures.keeps.honest honest) one)
-    (rw c.in-Some.is at c.in_ok-size.ensures.line)))
-
-pub returns-in_err-reply-clause-history : goal.returns-in_err-reply-clause-history
-returns-in_err-reply-clause-history g c = λ honest h legal stands.
-    lines_history h legal _ stands _ _ _ _ _ _
-    (returns-in_err-reply-clause-tables g c honest (sound_when_legal h legal _ stands).one_bearer)
-
-pub returns-in_err-reply-clause-told : goal.returns-in_err-reply-clause-told
-returns-in_err-reply-clause-told g c = λ honest clean one.
+    (rw c.in-Some.is at c.in_ok-size.ensures.line))))
+    (λ honest clean one.
     let is : c.from_residual-in_err-reply.result ≡ Err c.in_err-reply.field-0.0 = search rules in
     let other : c.from_residual-in_err-reply.result ≢ Err WriteFault = search rules in
     let leaves = c.in_err-reply.ensures.leaves in
     let B = g.B.Books in
     lines_front B _ c.loop-count.desk honest (leaves.clean clean) one _ _ _ _ _ _ _
     (LinesEnd-before _ _ _ _ _ _ c.from_residual-in_err-reply.result c.in_err-reply.field-0.0 is other
-    (Progress-taken _ _ _ _ _ _ _ _ c.in-Some.size _ c.loop-count.invariant.fronts (rw c.in-Some.is at c.in_ok-size.ensures.line)))
-
-pub returns-in_err-reply-clause-told_history : goal.returns-in_err-reply-clause-told_history
-returns-in_err-reply-clause-told_history g c = λ honest clean h legal stands.
-    lines_front_history h legal _ stands _ _ _ _ _ _
-    (returns-in_err-reply-clause-told g c honest clean (sound_when_legal h legal _ stands).one_bearer)
-
-pub returns-in_err-reply-clause-crash : goal.returns-in_err-reply-clause-crash
-returns-in_err-reply-clause-crash g c = λ honest clean one T left.
+    (Progress-taken _ _ _ _ _ _ _ _ c.in-Some.size _ c.loop-count.invariant.fronts (rw c.in-Some.is at c.in_ok-size.ensures.line))))
+    (λ honest clean one T left.
     let is : c.from_residual-in_err-reply.result ≡ Err c.in_err-reply.field-0.0 = search rules in
     let other : c.from_residual-in_err-reply.result ≢ Err WriteFault = search rules in
     let leaves = c.in_err-reply.ensures.leaves in
     let B = g.B.Books in
     lines_crash B _ _ honest (leaves.clean clean) one T (leaves.crash T left) _ _ _ _ _ _
     (LinesEnd-before _ _ _ _ _ _ c.from_residual-in_err-reply.result c.in_err-reply.field-0.0 is other
-    (Progress-taken _ _ _ _ _ _ _ _ c.in-Some.size _ c.loop-count.invariant.called (rw c.in-Some.is at c.in_ok-size.ensures.line)))
-
-pub returns-in_err-reply-clause-crash_history : goal.returns-in_err-reply-clause-crash_history
-returns-in_err-reply-clause-crash_history g c = λ honest clean h legal stands T left.
-    lines_crash_history h legal _ stands T _ _ _ _ _
-    (returns-in_err-reply-clause-crash g c honest clean (sound_when_legal h legal _ stands).one_bearer T left)
+    (Progress-taken _ _ _ _ _ _ _ _ c.in-Some.size _ c.loop-count.invariant.called (rw c.in-Some.is at c.in_ok-size.ensures.line))))
 
 pub returns-in_err-reply-clause-store : goal.returns-in_err-reply-clause-store
 returns-in_err-reply-clause-store g c =
@@ -231,22 +182,17 @@ returns-in_err-reply-clause-limit g c =
 
 -- ---- a write failed
 
-pub returns-in_default-write_line-clause-tables : goal.returns-in_default-write_line-clause-tables
-returns-in_default-write_line-clause-tables g c = λ honest one.
+pub returns-in_default-write_line-clause-answers : goal.returns-in_default-write_line-clause-answers
+returns-in_default-write_line-clause-answers g c =
+    desk_answers_lines g.B.Books _ _ _ _ _ _ (Err WriteFault)
+    (λ honest one.
     let honest_then = c.reply_to.ensures.keeps.honest honest in
     let front = c.in_default-write_line.ensures.front in
     Progress-during _ _ _ _ _ _ _ _ _ _ _ c.in-Some.size _ _ _ (c.loop-count.invariant.progress honest_then one)
     (rw c.in-Some.is at c.in_ok-size.ensures.line)
     (lines_push _ _ _ _ _ _ (rw c.as_slice.ensures.value at (c.in_ok-reply.ensures.reply honest (c.loop-count.invariant.keeps.one_bearer honest_then one))))
-    front.0 front.1
-
-pub returns-in_default-write_line-clause-history : goal.returns-in_default-write_line-clause-history
-returns-in_default-write_line-clause-history g c = λ honest h legal stands.
-    lines_history h legal _ stands _ _ _ _ _ (Err WriteFault)
-    (returns-in_default-write_line-clause-tables g c honest (sound_when_legal h legal _ stands).one_bearer)
-
-pub returns-in_default-write_line-clause-told : goal.returns-in_default-write_line-clause-told
-returns-in_default-write_line-clause-told g c = λ honest clean one.
+    front.0 front.1)
+    (λ honest clean one.
     let front = c.in_default-write_line.ensures.front in
     let B = g.B.Books in
     let reply = rw c.as_slice.ensures.value at c.in_ok-reply.ensures.reply in
@@ -256,27 +202,15 @@ returns-in_default-write_line-clause-told g c = λ honest clean one.
     (Progress-during _ _ _ _ _ _ _ _ _ _ _ c.in-Some.size _ _ _ c.loop-count.invariant.fronts
     (rw c.in-Some.is at c.in_ok-size.ensures.line)
     (front_push B _ _ _ (B.tables c.loop-count.desk) (B.tables c.reply_to.new.desk) _ _ _ c.loop-count.invariant.keeps c.reply_to.ensures.keeps reply lasts asks)
-    front.0 front.1)
-
-pub returns-in_default-write_line-clause-told_history : goal.returns-in_default-write_line-clause-told_history
-returns-in_default-write_line-clause-told_history g c = λ honest clean h legal stands.
-    lines_front_history h legal _ stands _ _ _ _ _ (Err WriteFault)
-    (returns-in_default-write_line-clause-told g c honest clean (sound_when_legal h legal _ stands).one_bearer)
-
-pub returns-in_default-write_line-clause-crash : goal.returns-in_default-write_line-clause-crash
-returns-in_default-write_line-clause-crash g c = λ honest clean one T left.
+    front.0 front.1))
+    (λ honest clean one T left.
     let front = c.in_default-write_line.ensures.front in
     let B = g.B.Books in
     lines_crash B _ _ honest clean one T left (B.tables c.reply_to.new.desk) _ _ _ _ (Err WriteFault)
     (Progress-during _ _ _ _ _ _ _ _ _ _ _ c.in-Some.size _ _ _ c.loop-count.invariant.called
     (rw c.in-Some.is at c.in_ok-size.ensures.line)
     (taken_push B _ _ _ _ (B.tables c.reply_to.new.desk) _ _ _ (rw c.as_slice.ensures.value at c.in_ok-reply.ensures.asks))
-    front.0 front.1)
-
-pub returns-in_default-write_line-clause-crash_history : goal.returns-in_default-write_line-clause-crash_history
-returns-in_default-write_line-clause-crash_history g c = λ honest clean h legal stands T left.
-    lines_crash_history h legal _ stands T _ _ _ _ (Err WriteFault)
-    (returns-in_default-write_line-clause-crash g c honest clean (sound_when_legal h legal _ stands).one_bearer T left)
+    front.0 front.1))
 
 pub returns-in_default-write_line-clause-store : goal.returns-in_default-write_line-clause-store
 returns-in_default-write_line-clause-store g c =
@@ -370,36 +304,19 @@ loop-count-preserved g c =
 
 -- ---- no more lines may be read
 
-pub returns-clause-tables : goal.returns-clause-tables
-returns-clause-tables g c = λ honest one.
-    Progress-part _ _ _ _ _ _ _ _ (c.loop-count.invariant.progress honest one) (PartIsTaken-none _)
-
-pub returns-clause-history : goal.returns-clause-history
-returns-clause-history g c = λ honest h legal stands.
-    lines_history h legal _ stands _ _ _ _ _ (Err ReadFault)
-    (returns-clause-tables g c honest (sound_when_legal h legal _ stands).one_bearer)
-
-pub returns-clause-told : goal.returns-clause-told
-returns-clause-told g c = λ honest clean one.
+pub returns-clause-answers : goal.returns-clause-answers
+returns-clause-answers g c =
+    desk_answers_lines g.B.Books _ _ _ _ _ _ (Err ReadFault)
+    (λ honest one.
+    Progress-part _ _ _ _ _ _ _ _ (c.loop-count.invariant.progress honest one) (PartIsTaken-none _))
+    (λ honest clean one.
     let B = g.B.Books in
     lines_front B _ _ honest clean one _ _ _ _ _ _ (Err ReadFault)
-    (Progress-part _ _ _ _ _ _ _ _ c.loop-count.invariant.fronts (PartIsTaken-none _))
-
-pub returns-clause-told_history : goal.returns-clause-told_history
-returns-clause-told_history g c = λ honest clean h legal stands.
-    lines_front_history h legal _ stands _ _ _ _ _ (Err ReadFault)
-    (returns-clause-told g c honest clean (sound_when_legal h legal _ stands).one_bearer)
-
-pub returns-clause-crash : goal.returns-clause-crash
-returns-clause-crash g c = λ honest clean one T left.
+    (Progress-part _ _ _ _ _ _ _ _ c.loop-count.invariant.fronts (PartIsTaken-none _)))
+    (λ honest clean one T left.
     let B = g.B.Books in
     lines_crash B _ _ honest clean one T left _ _ _ _ _ (Err ReadFault)
-    (Progress-part _ _ _ _ _ _ _ _ c.loop-count.invariant.called (PartIsTaken-none _))
-
-pub returns-clause-crash_history : goal.returns-clause-crash_history
-returns-clause-crash_history g c = λ honest clean h legal stands T left.
-    lines_crash_history h legal _ stands T _ _ _ _ (Err ReadFault)
-    (returns-clause-crash g c honest clean (sound_when_legal h legal _ stands).one_bearer T left)
+    (Progress-part _ _ _ _ _ _ _ _ c.loop-count.invariant.called (PartIsTaken-none _)))
 
 pub returns-clause-store : goal.returns-clause-store
 returns-clause-store g c =

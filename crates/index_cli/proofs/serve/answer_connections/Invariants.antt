@@ -1,11 +1,8 @@
 use Rattle.std.proofs.Common.{◌≡◌, ◌<◌, true}
 use Rattle.index_rules.specs.Facts.{HasOneBearer}
-use Rattle.index_rules.specs.History.{History}
-use Rattle.index_rules.specs.Legal.{IsLegal}
-use Rattle.index_rules.specs.StandsFor.{StandsFor}
 use Rattle.index_desk.specs.Invariants.{KeepsInvariants}
 use Rattle.index_desk.specs.Rules.{by_tables}
-use Rattle.index_cli.specs.Serving.{ServesByHistory, Serves}
+use Rattle.index_cli.specs.Serving.{Serves}
 use Rattle.index_cli.proofs.Served.{AreSoFar}
 use Rattle.index_cli.proofs.ServedFronts.{ServedSoFar}
 use Rattle.index_cli.proofs.serve.answer_connections.Given as goal
@@ -19,7 +16,6 @@ invariant-loop-count g l =
     let are = AreSoFar g.C.Connections.coming g.C.Connections.replies l.fn.connections l.connections in
     record {
       tables : honest → HasOneBearer before → Serves are by_tables l.fn.at l.count before now;
-      history : honest → (h : History) → IsLegal h → StandsFor before h → ServesByHistory are h l.fn.at l.count now;
       fronts : g.B.Books.IsHonest l.fn.desk → g.B.Books.IsClean l.desk → HasOneBearer before → ServedSoFar g.B.Books are l.fn.at l.fn.desk l.desk l.count;
       keeps : KeepsInvariants g.B.Books l.fn.desk l.desk;
       shut : l.was_shut ≡ true → 0 < g.B.Books.failures l.desk;
