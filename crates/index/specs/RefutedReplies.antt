@@ -34,7 +34,7 @@ use Rattle.index_http.specs.Shows.{Look, LookShows}
 use Rattle.index_http.specs.Steps.{at_desk, to_sink}
 use Rattle.index_http.specs.declared.end.IoEnd.{IoEnd}
 use Rattle.index_http.specs.declared.end.IoEnd.TheVariants as io_end
-use Rattle.index_cli.specs.Connections.{Exchange, KnownList, KnownReplies, StreamFaults}
+use Rattle.index_cli.specs.Connections.{KnownList, KnownReplies, StreamFaults, exchange_of}
 use Rattle.index_cli.specs.Lines.{longest_line}
 use Rattle.index_cli.specs.Replies.{KeptLineIsAnswered, LineFailsOnly, LineReportsStoreFault}
 use Rattle.index_cli.specs.Replies.{RepliesStanding, RepliesToLine}
@@ -139,11 +139,6 @@ pub record RefutesHeads {K : Type 0} (out : Outs K) (before after : K) : Type 0 
 abbrev pub bad_head_text : Bytes → Bytes
 bad_head_text input = reply_text (begins_with_head input) (message_reply BadHead)
 
--- a connection whose client sent this input
-abbrev pub exchange_of : ℕ → Bytes → (had has : Option Bytes) → StreamFaults → Exchange
-exchange_of at input had has faults =
-    record { at = at; given = Some input; had = had; has = has; faults = faults }
-
 -- no input without a head gets the wrong reply or changes a table
 pub record RefutesHeadless (at : ℕ) (input : Bytes) (had has : Option Bytes)
     (faults : StreamFaults) : Type 0 where
@@ -157,25 +152,25 @@ pub record RefutesHeadless (at : ℕ) (input : Bytes) (had has : Option Bytes)
       → ¬ ReplyEndsByHistory (HasFailed before after) at h (Some input) had has result T'
   -- the input changed a table
   pub tables : (T T' : Tables) → (¬ (T' ≡ T))
-      → ¬ ExchangeIsAnswered by_tables (exchange_of at input had has faults) T T'
+      → ¬ ExchangeIsAnswered by_tables (exchange_of at (Some input) had has faults) T T'
   -- what was sent is not the start of the reply
   pub front : (T T' : Tables) → ((count : ℕ) → ¬ Appends had has (take count (bad_head_text input)))
-      → ¬ ExchangeIsAnswered by_tables (exchange_of at input had has faults) T T'
+      → ¬ ExchangeIsAnswered by_tables (exchange_of at (Some input) had has faults) T T'
   -- the tables do not stand for the one history
   pub history : (h : History) (T' : Tables) → (¬ StandsFor T' h)
-      → ¬ OneHistory h (exchange_of at input had has faults) T'
+      → ¬ OneHistory h (exchange_of at (Some input) had has faults) T'
   -- its whole reply shows no failure
   pub whole : (T : Tables) → ¬ SentBytesShowFailure (IsFaultless by_tables at (Some input) T)
       (Some []) (Some (bad_head_text input))
   -- a failure, whatever was sent: only the reply to a request tells of one
   pub fails : (T : Tables)
-      → ¬ ExchangeShowsFailure by_tables (exchange_of at input had has faults) T
+      → ¬ ExchangeShowsFailure by_tables (exchange_of at (Some input) had has faults) T
 
 -- no input without a head changes the tables of a desk or makes a call of it
 pub record RefutesAsks {S : Type 0} (g : Ghosts S) (old new : S) (at : ℕ) (input : Bytes)
     (had has : Option Bytes) (faults : StreamFaults) : Type 0 where
-  pub message : ¬ DeskAnswersExchange g old new (exchange_of at input had has faults)
-  pub asks : ¬ AsksOne (exchange_of at input had has faults) (LeavesTables g old new)
+  pub message : ¬ DeskAnswersExchange g old new (exchange_of at (Some input) had has faults)
+  pub asks : ¬ AsksOne (exchange_of at (Some input) had has faults) (LeavesTables g old new)
       (Takes g old new)
 
 -- the next connection was answered, but as many are to come as before

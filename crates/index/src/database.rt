@@ -9,7 +9,8 @@ ghost use Rattle.sqlite.specs.WalFiles.{image_at};
 ghost use Rattle.sqlite.specs.WalReads.{AreClean};
 ghost use Rattle.sqlite_trees.specs.View.{IsClean};
 ghost use Rattle.index_digest.specs.Digest.{read_digest};
-ghost use Rattle.index_rules.specs.Facts.{HasOneBearer};
+ghost use Rattle.index_cli.specs.LineFronts.{FrontByTables};
+ghost use Rattle.index_desk.specs.Takes.{ByTables, CrashByTables};
 ghost use Rattle.index_rules.specs.FirstTables.{first_tables};
 ghost use Rattle.index_rules.specs.Tables.{Tables};
 ghost use Rattle.index_sql_schema.specs.Schema.{no_schema};
@@ -85,13 +86,11 @@ pub trait Work {
 
     /// Does the work, and returns its number.
     fn run<B: CachesAnswers>(&mut self, rt: &HostRuntime, desk: &mut Desk<B>) -> Result<u64, End>
-        ensures done { B.IsHonest desk.new → HasOneBearer (B.tables desk.old) →
-            Does (task self.old self.new) result (B.tables desk.old) (B.tables desk.new) }
-        ensures told { B.IsHonest desk.old → B.IsClean desk.new → HasOneBearer (B.tables desk.old) →
-            TaskTells (task self.old self.new) result (B.tables desk.old) }
-        ensures crash { B.IsHonest desk.old → B.IsClean desk.new →
-            HasOneBearer (B.tables desk.old) → (T : Tables) → B.may_leave desk.new T →
-            TaskMayLeave (task self.old self.new) result (B.tables desk.old) T }
+        ensures done { ByTables B.Books desk.old desk.new (Does (task self.old self.new) result) }
+        ensures told { FrontByTables B.Books desk.old desk.new
+            (TaskTells (task self.old self.new) result) }
+        ensures crash { CrashByTables B.Books desk.old desk.new
+            (TaskMayLeave (task self.old self.new) result) }
         ensures honest { B.IsHonest desk.new → B.IsHonest desk.old }
         ensures clean { B.IsClean desk.new → B.IsClean desk.old }
         // A failed store is never reported as out of memory.
@@ -197,8 +196,7 @@ fn create_and_close<D: Disk + Drop>(
     ensures unclosed { IfOk result (λ closed. IfErr closed (λ it. IsClean (over_files.view it.store)
         → (start : Image) → IsOpenedOn start conn
         → CreatedInLog (first_tables user.now token) start it.store)) }
-    ensures was_clean { IfOk result (λ closed. IsCleanClosed closed
-        → HasCleanDisk (file_state conn)) }
+    ensures was_clean { IfOk result (λ it. IsCleanClosed it → HasCleanDisk (file_state conn)) }
     ensures fault { IfOk result (λ closed. IfErr closed (λ it. IsTrue (is_fault_end it.fault))) }
     ensures refused { IfErr result (λ it. IfSome it.left (λ left. (start : Image) →
         IsOpenedOn start conn → UnusedLeaves (IsUnmade (first_tables user.now token)) start left)) }
@@ -267,11 +265,9 @@ fn create_in<S: Alter + Drop>(
     requires outside { conn.in_transaction ≡ false }
     ensures made { IfOk result (λ made.
         IsMadeNew (first_tables user.now token) (state S.Store conn) (state S.Store made)) }
-    ensures refused { IfErr result (λ left. HasCleanDisk (state S.Store left.conn)
-        → CrashLeavesDatabase (IsCreated (first_tables user.now token)) (state S.Store conn)
-        (state S.Store left.conn)) }
-    ensures why { IfErr result (λ left.
-        IsWhyUnmade user.now token S.Store conn left.conn left.why) }
+    ensures refused { IfErr result (λ it. HasCleanDisk (state S.Store it.conn) → CrashLeavesDatabase
+        (IsCreated (first_tables user.now token)) (state S.Store conn) (state S.Store it.conn)) }
+    ensures why { IfErr result (λ it. IsWhyUnmade user.now token S.Store conn it.conn it.why) }
 {
     match SqlBooks::create(rt.alloc(), conn, user.as_bytes(), token) {
         Ok(books) => Ok(books.into_connection()),
@@ -385,8 +381,7 @@ fn cause_of_schema<S: Alter>(
         → IfOk result (λ cause. cause ≡ None) }
     ensures told { IfOk result (λ cause. IsSome cause
         → SchemaHasCause (state S.Store conn.now).now.schema cause) }
-    ensures tables { IfOk result (λ cause. cause ≡ None
-        → IsKnown (state S.Store conn.now).now.schema) }
+    ensures tables { IfOk result (λ it. it ≡ None → IsKnown (state S.Store conn.now).now.schema) }
 {
     if let Some(name) = other_object(conn.schema()) {
         return Ok(Some(Cause::Object(String::from_utf8_lossy(alloc, name)?)));

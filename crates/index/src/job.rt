@@ -171,8 +171,7 @@ fn ended_by(end: Result<u64, End>, closed: Result<(), End>) -> Result<u64, End>
     ensures closed { IsOk closed → result ≡ end }
     ensures unclosed { IfErr closed (λ fault. IfOk end (λ _. result ≡ Err fault)) }
     ensures ended { IfErr end (λ e. is_store e ≡ false → result ≡ Err e) }
-    ensures kept { IfErr end (λ e.
-        IfErr closed (λ fault. is_store fault ≡ false → result ≡ Err e)) }
+    ensures kept { IfErr end (λ e. IfErr closed (λ it. is_store it ≡ false → result ≡ Err e)) }
     ensures failed { IfErr end (λ e. IsTrue (is_store e)
         → IfErr closed (λ fault. IsTrue (is_store fault) → result ≡ Err fault)) }
 {

@@ -6,8 +6,11 @@ pub record StreamFaults : Type 0 where
   pub reads : ℕ
   pub writes : ℕ
 
+abbrev pub faults_of : (reads writes : ℕ) → StreamFaults
+faults_of reads writes = record { reads = reads; writes = writes }
+
 abbrev pub no_faults : StreamFaults
-no_faults = record { reads = 0; writes = 0 }
+no_faults = faults_of 0 0
 
 -- a connection that was answered
 pub record Exchange : Type 0 where
@@ -21,6 +24,11 @@ pub record Exchange : Type 0 where
   pub has : Option (List ℕ)
   -- what failed on it
   pub faults : StreamFaults
+
+-- an exchange of these parts
+abbrev pub exchange_of : ℕ → (given had has : Option (List ℕ)) → StreamFaults → Exchange
+exchange_of at given had has faults =
+    record { at = at; given = given; had = had; has = has; faults = faults }
 
 -- the inputs of connections, in order, if they are known
 abbrev pub KnownList : Type 0

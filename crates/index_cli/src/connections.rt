@@ -1,6 +1,6 @@
 //! Sources of connections.
 ghost use Rattle.std.specs.Prelude.{◌≡◌, IfNone, IfOk, IfSome, OnErr};
-ghost use Rattle.index_cli.specs.Connections.{AddsReply, ClientTaken, IsUnsent, KnownList, KnownReplies, Loses};
+ghost use Rattle.index_cli.specs.Connections.{AddsReply, ClientTaken, IsUnsent, KnownList, KnownReplies, Loses, faults_of};
 
 use index_io::{Failed, Sink, Source};
 
@@ -67,9 +67,8 @@ pub trait Connections {
     ) -> Result<(), Failed>
         requires open { IsOpen self.old }
         ensures closed { AddsReply (replies self.old) (replies self.new)
-            (Self.WriteHalf.contents connection.sink) (record {
-              reads = Self.ReadHalf.failures connection.source;
-              writes = Self.WriteHalf.failures connection.sink;
-            }) }
+            (Self.WriteHalf.contents connection.sink)
+            (faults_of (Self.ReadHalf.failures connection.source)
+            (Self.WriteHalf.failures connection.sink)) }
         ensures kept { coming self.new ≡ coming self.old };
 }

@@ -4,7 +4,7 @@ ghost use Rattle.std.specs.Prelude.{◌≡◌, ◌≢◌, ◌<◌, ◌/◌, true
 ghost use Rattle.std.specs.Prelude.{IfErr, IfOk, IfSome, IsErrOf, OnErr, OnOk};
 ghost use Rattle.index_desk.specs.Invariants.{KeepsInvariants};
 ghost use Rattle.index_desk.specs.Looks.{LeavesTables};
-ghost use Rattle.index_cli.specs.Connections.{AddsReply, AreOn, IsRest};
+ghost use Rattle.index_cli.specs.Connections.{AddsReply, AreOn, IsRest, exchange_of, faults_of};
 ghost use Rattle.index_http.specs.Steps.{at_desk};
 ghost use Rattle.index_cli.specs.DeskAnswers.{DeskAnswersConnections};
 ghost use Rattle.index_cli.specs.Serving.{DeskAnswersExchange, IsCount, NextConnectionIsAnswered};
@@ -112,13 +112,9 @@ fn answer_accepted<C: Connections, B: CachesAnswers>(
     requires open { C.IsOpen connections.old }
     ensures answered { (has : _) × (faults : _)
         × AddsReply (C.replies connections.old) (C.replies connections.new) has faults
-        × DeskAnswersExchange B.Books desk.old desk.new (record {
-          at = at;
-          given = C.ReadHalf.remaining connection.source;
-          had = C.WriteHalf.contents connection.sink;
-          has = has;
-          faults = faults;
-        }) }
+        × DeskAnswersExchange B.Books desk.old desk.new (exchange_of at
+        (C.ReadHalf.remaining connection.source) (C.WriteHalf.contents connection.sink)
+        has faults) }
     ensures kept { C.coming connections.new ≡ C.coming connections.old }
 {
     let ended = answer_message(
@@ -201,13 +197,9 @@ fn answer_message<S: Source, K: Sink, B: CachesAnswers>(
     desk: &mut Desk<B>,
     at: u64,
 ) -> Result<(), IoEnd>
-    ensures { DeskAnswersExchange B.Books desk.old desk.new (record {
-      at = at;
-      given = S.remaining source.old;
-      had = K.contents sink.old;
-      has = K.contents sink.new;
-      faults = record { reads = S.failures source.new; writes = K.failures sink.new };
-    }) }
+    ensures { DeskAnswersExchange B.Books desk.old desk.new (exchange_of at (S.remaining source.old)
+        (K.contents sink.old) (K.contents sink.new)
+        (faults_of (S.failures source.new) (K.failures sink.new))) }
 {
     answer_one(alloc, site, source, sink, desk, at)
 }

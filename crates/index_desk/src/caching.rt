@@ -34,8 +34,7 @@ pub trait CachesAnswers: Books {
 
     /// Caches the bytes of a file if there is room. It changes no table.
     fn cache_body(&mut self, file: FileName, body: Sealed)
-        requires { Self.IsHonest self.old →
-            get (Self.tables self.old).bodies file ≡ Some body }
+        requires { Self.IsHonest self.old → get (Self.tables self.old).bodies file ≡ Some body }
         ensures { LookFindsNothing Self.Books self.old self.new };
 
     /// The cached text of a page in a type, or `None` if it is not cached.

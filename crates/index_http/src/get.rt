@@ -147,8 +147,8 @@ fn to_show<B: Books>(
 ) -> Result<ToShow, Fault>
     ensures shows { LooksAt B.Books desk.old desk.new result
         (λ T what. LeadsTo T what (ShowsResource by_tables T request.now.fields resource.now)) }
-    ensures page { IfOk result (λ what. is_page_to_show what ≡ true → is_page resource.now ≡ true) }
-    ensures found { IfOk result (λ what. can_be_read resource.now ≡ false → is_reply what ≡ true) }
+    ensures page { IfOk result (λ it. is_page_to_show it ≡ true → is_page resource.now ≡ true) }
+    ensures found { IfOk result (λ it. can_be_read resource.now ≡ false → is_reply it ≡ true) }
     ensures readable { IfErr result (λ _. can_be_read resource.now ≡ true) }
 {
     match resource {
@@ -204,8 +204,7 @@ fn page_at<B: Books>(
 ) -> Result<ToShow, Fault>
     ensures shows { LooksAt B.Books desk.old desk.new result (λ T what.
         LeadsTo T what (ShowsPath by_tables T request.now.fields given.now (read_name given.now))) }
-    ensures found { IfOk result (λ what.
-        is_some (read_name given.now) ≡ false → is_reply what ≡ true) }
+    ensures found { IfOk result (λ it. is_some (read_name given.now) ≡ false → is_reply it ≡ true) }
     ensures readable { IfErr result (λ _. IsSome (read_name given.now)) }
 {
     let Some(name) = name_of(alloc, given)? else {
@@ -252,11 +251,11 @@ fn no_page_of<B: Books>(
 
 /// A file, or the reply to a file name that is not valid.
 fn file_to_show(alloc: Global, given: &Bytes) -> Result<ToShow, AllocError>
-    ensures shows { IfOk result (λ what. (T : Tables) → LeadsTo T what
+    ensures shows { IfOk result (λ it. (T : Tables) → LeadsTo T it
         (ShowsFile by_tables T given.now (is_some (read_file_name given.now)))) }
-    ensures found { IfOk result (λ what.
-        is_some (read_file_name given.now) ≡ false → is_reply what ≡ true) }
-    ensures page { IfOk result (λ what. is_page_to_show what ≡ false) }
+    ensures found { IfOk result (λ it.
+        is_some (read_file_name given.now) ≡ false → is_reply it ≡ true) }
+    ensures page { IfOk result (λ it. is_page_to_show it ≡ false) }
     ensures readable { IfErr result (λ _. IsSome (read_file_name given.now)) }
 {
     match FileName::read(alloc, given.as_slice()) {

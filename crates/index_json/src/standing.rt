@@ -21,8 +21,7 @@ use std::alloc::{AllocError, Global};
 ///
 /// `OutOfMemory`.
 pub fn standing_text(alloc: Global, standing: &Standing) -> Result<String, Fault>
-    ensures text { OkOrNoMemory result
-        (λ text. string_bytes text ≡ standing_text_of standing.now) }
+    ensures text { OkOrNoMemory result (λ text. string_bytes text ≡ standing_text_of standing.now) }
 {
     let value = standing_value(alloc, standing)?;
     let text = value.to_string(alloc);

@@ -47,11 +47,9 @@ pub fn read_head<S: Source>(
     ensures short { vec_len held.new ≤ longest_head }
     ensures consumed { OnOk result (GivesBytes S.Source source.old source.new held.new.items) }
     ensures head { IfOk result (λ found. IfSome found (IsHeadAt held.new.items fields.new)) }
-    ensures none { result ≡ Ok None →
-        HasNoHead (and_left held.new.items (S.remaining source.new)) }
-    ensures method { result ≡ Ok None →
-        begins_with_head (and_left held.new.items (S.remaining source.new))
-        ≡ begins_with_head held.new.items }
+    ensures none { result ≡ Ok None → HasNoHead (and_left held.new.items (S.remaining source.new)) }
+    ensures method { result ≡ Ok None → begins_with_head
+        (and_left held.new.items (S.remaining source.new)) ≡ begins_with_head held.new.items }
     ensures prompt { ReadFailsInHead S.Source source.old source.new held.new.items result }
     ensures reads { SourceReadsWithin S.Source source.old source.new longest_head result }
 {

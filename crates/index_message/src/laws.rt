@@ -6,6 +6,5 @@ ghost use Rattle.index_message.specs.declared.message.Message.{Message};
 
 /// An input begins with at most one message, which its bytes alone decide.
 pub fn one_message()
-    ensures { (input : Bytes) (m k : Message) →
-        IsMessage input m → IsMessage input k → m ≡ k }
+    ensures { (input : Bytes) (m k : Message) → IsMessage input m → IsMessage input k → m ≡ k }
 {}

@@ -184,8 +184,7 @@ pub fn resolve_target(
     method: &[u8],
     target: &[u8],
 ) -> Result<Result<(Resource, Method), MessageFault>, AllocError>
-    ensures found { IfOk result (λ found.
-        found ≡ target_by method.now (resource_of_lem target.now)) }
+    ensures found { IfOk result (λ it. it ≡ target_by method.now (resource_of_lem target.now)) }
     ensures routed { IfErr result (λ _. has_route target.now ≡ true) }
 {
     let Some(resource) = resource_of(alloc, site, target)? else {

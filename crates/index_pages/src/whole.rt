@@ -36,8 +36,7 @@ pub fn project_page(
     rows: &[FileRow],
     served: Served,
 ) -> Result<Vec<u8>, Fault>
-    ensures page { OkOrNoMemory result
-        (λ text. text.items ≡ project_page_of served name.now rows.now) }
+    ensures page { OkOrNoMemory result (λ it. it.items ≡ project_page_of served name.now rows.now) }
 {
     let mut text = Vec::new(alloc);
     let mut page = ProjectPage::new(alloc, served);

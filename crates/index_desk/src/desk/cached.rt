@@ -44,8 +44,7 @@ impl<B: CachesAnswers> Desk<B> {
 
     /// Caches the text of a page in a type if there is room. It changes no table.
     pub fn cache_page(&mut self, page: PageKey<'_>, served: Served, text: Vec<u8>)
-        requires { B.IsHonest self.old →
-            page_in (B.tables self.old) served page ≡ Some text.items }
+        requires { B.IsHonest self.old → page_in (B.tables self.old) served page ≡ Some text.items }
         ensures { LookFindsNothing B.Books self.old self.new }
     {
         self.books.cache_page(page, served, text);

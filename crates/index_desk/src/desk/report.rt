@@ -40,9 +40,8 @@ impl<B: Books> Desk<B> {
     /// fail, nothing was written. After `WriteFault` that many bytes were.
     pub fn report<S: Sink>(&mut self, alloc: Global, sink: &mut S) -> Result<(), ReportFault>
         // Holds also if a fault has shut the store.
-        ensures report { B.IsHonest self.old → B.IsClean self.new
-            → Reports (report_in (B.tables self.old))
-            (S.contents sink.old) (S.contents sink.new) result }
+        ensures report { B.IsHonest self.old → B.IsClean self.new → Reports
+            (report_in (B.tables self.old)) (S.contents sink.old) (S.contents sink.new) result }
         ensures fails { ReportFailsOnly B.Books S.Sink self.old self.new sink.old sink.new result }
         ensures leaves { LeavesTables B.Books self.old self.new }
     {

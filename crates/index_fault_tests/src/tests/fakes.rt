@@ -1,7 +1,5 @@
 //! Readers, writers and books that fail.
-ghost use Rattle.std.specs.Prelude.{List, ◌≡◌, not};
-ghost use Rattle.index_rules.specs.declared.rows.FileRow.{FileRow as FileRowData};
-ghost use Rattle.index_rules.specs.declared.rows.NameRow.{NameRow as NameRowData};
+ghost use Rattle.std.specs.Prelude.{◌≡◌, not};
 ghost use Rattle.index_rules.specs.Walks.{Walks, WalksSome, has_fault};
 ghost use Rattle.index_io.specs.Counts.{next_count};
 
@@ -85,8 +83,7 @@ pub(super) enum BooksCall {
 
 /// Passes a name to a taker, as a walk does that then ends with this fault.
 fn hand_name<K: NameTaker>(taker: &mut K, row: &NameRow, fault: Fault) -> Result<(), WalkEnd>
-    ensures given { (rows : List NameRowData) ×
-        Walks K.takes K.stops rows taker.old taker.new result }
+    ensures given { (rows : _) × Walks K.takes K.stops rows taker.old taker.new result }
 {
     if taker.take(row) {
         Err(WalkEnd::from(fault))
@@ -97,8 +94,7 @@ fn hand_name<K: NameTaker>(taker: &mut K, row: &NameRow, fault: Fault) -> Result
 
 /// Passes a file to a taker, as a walk does that then ends with this fault.
 fn hand_file<K: FileTaker>(taker: &mut K, row: &FileRow, fault: Fault) -> Result<(), WalkEnd>
-    ensures given { (rows : List FileRowData) ×
-        Walks K.takes K.stops rows taker.old taker.new result }
+    ensures given { (rows : _) × Walks K.takes K.stops rows taker.old taker.new result }
 {
     if taker.take(row) {
         Err(WalkEnd::from(fault))
