@@ -15,6 +15,7 @@ from support.indexctl.control import assert_ends, digest, environment
 from support.needed import want_command
 from support.packages import make_wheel, wheel_files, wheel_name
 from support.places import SERVER, TOP
+from support.server.waits import wait_for
 from support.serving import Index, accepted
 
 pytestmark = pytest.mark.xdist_group("pythons")
@@ -131,8 +132,10 @@ def test_each_python_uploads_and_shows_over_tls(python, one_file, fronts, folder
     assert_ends(ended, 0)
     assert [(it["file"], it["python"]) for it in json.loads(ended.stdout)] == [(file, ">=3.8")]
     assert_ends(run(python, one_file, "releases", name, **setting), 0, "\u00e9", file)
-    words = "completion", "bash", "--", "who", name[:3]
-    assert_ends(run(python, "-c", COMPLETES, one_file, *words, **setting), 0, f"{name}\n")
+    words = "-c", COMPLETES, one_file, "completion", "bash", "--", "who", name[:3]
+    # nginx may have cached the list of names a moment before this one was claimed
+    wait_for(lambda: f"{name}\n" in run(python, *words, **setting).stdout)
+    assert_ends(run(python, *words, **setting), 0, f"{name}\n")
 
 
 def test_each_python_trusts_an_authority_that_says_what_its_key_is_for(python, one_file, fronts, folder):
