@@ -211,7 +211,8 @@ def test_an_upgrade_has_what_was_there(life):
 
 def test_an_upgrade_restarts_each_service_that_runs(life):
     restarted = re.findall(r"^systemctl try-restart (.*)", life.upgraded["asked"], re.M)
-    assert restarted == ["index.service index@*.service index-legacy-upload.service"], life.upgraded["asked"]
+    assert restarted == ["index.service index@*.service index-legacy-upload.service index-uncache-follow.service "
+                         "index-uncache-follow@*.service"], life.upgraded["asked"]
 
 
 def test_a_file_that_a_person_changed_stays_and_another_is_new(life):

@@ -9,6 +9,7 @@ from support.library import followed
 from support.places import BIN, SERVER
 from support.programs import program_of
 from support.running import run_command
+from support.server.caches import make_cache
 from support.server.expected import assert_ends, assert_reply
 from support.server.gone import ask_and_go
 from support.server.manager import reopen
@@ -16,6 +17,7 @@ from support.server.pasted import block
 from support.server.waits import wait_for
 from support.server.watched import unit
 from support.serving import Running, accepted, sha256
+from support.unit import raises
 
 FOLLOW = program_of("index-uncache-follow")
 FILES = "frob-8.0.tar.gz", "frob-8.1+fix.1.tar.gz", "frob-8.2-py3-none-any.whl"
@@ -150,8 +152,9 @@ def test_the_second_time_is_for_a_reply_that_was_under_way(monkeypatch, tmp_path
     monkeypatch.setattr(FOLLOW.time, "monotonic", lambda: now[0])
     kept = []
     monkeypatch.setattr(FOLLOW, "keep_place", lambda path, place: kept.append((now[0], place)))
-    FOLLOW.follow(FOLLOW.argparse.Namespace(place=f"{tmp_path}/place", log="x", cache="y", again=5))
+    FOLLOW.follow(FOLLOW.argparse.Namespace(place=f"{tmp_path}/place", log="x", cache="y", again=5, front=None))
     assert taken == [(100.0, ["a", "a-1.zip"]), (105.0, ["a", "a-1.zip"])] and kept == [(105.0, (1, 9))]
+    assert (tmp_path / "removed").read_text() == f"{line}\n"
 
 
 @pytest.mark.parametrize("status, method, path, body, words", [
@@ -172,7 +175,7 @@ def test_a_line_says_what_is_gone(status, method, path, body, words):
 
 def test_a_file_that_can_not_be_taken_out_is_told_and_tried_again(tmp_path):
     """As one of another user: the place stays before the line."""
-    (tmp_path / "cache").mkdir()
+    make_cache(str(tmp_path / "cache"), [("a", "b")])
     log = tmp_path / "log"
     log.write_text(json.dumps({"status": 200, "method": "DELETE", "path": "/files/a/b", "body": ""}) + "\n")
     words = ["--log", log, "--cache", tmp_path / "cache", "--place", tmp_path / "place"]
@@ -185,6 +188,16 @@ def test_a_file_that_can_not_be_taken_out_is_told_and_tried_again(tmp_path):
     ended = run_command([sys.executable, "-B", f"{tmp_path}/bin/follow", *map(str, words)])
     assert_ends(ended, 1, "index-uncache a b: no right to remove it")
     assert not (tmp_path / "place").exists()
+
+
+def test_a_file_that_nginx_does_not_keep_is_not_looked_for(tmp_path, monkeypatch):
+    """It may keep many, and that takes seconds."""
+    cache = make_cache(str(tmp_path / "cache"), [("frob", "frob-1.zip")])
+    monkeypatch.setattr(FOLLOW.subprocess, "run", raises(AssertionError("looked for")))
+    FOLLOW.take_out(["frob", "frob-2.zip"], cache)
+    for words in (["Frob", "frob-1.zip"], ["frob"]):
+        with pytest.raises(AssertionError, match="looked for"):
+            FOLLOW.take_out(words, cache)
 
 
 def test_a_place_that_is_gone_or_spoilt_has_all_logs_read(tmp_path):

@@ -7,6 +7,7 @@ import threading
 from contextlib import contextmanager
 
 import pytest
+from support.library import cache as places
 from support.programs import program_of
 from support.unit import calls, ends, raises, with_time
 
@@ -154,7 +155,7 @@ KEYS = ("/files/frob/frob-1.0+x.tar.gz", "/files/frob/Frob-1.0-py3-none-any.whl"
 
 def test_a_key_stands_at_the_head_of_a_file_and_is_where_nginx_has_it(tmp_path):
     cache = Cache(tmp_path, *KEYS)
-    assert UNCACHE.place(str(tmp_path), KEYS[0]) == str(cache.place(KEYS[0]))
+    assert places.place(str(tmp_path), KEYS[0]) == str(cache.place(KEYS[0]))
     assert UNCACHE.key_of(str(cache.place(KEYS[0]))) == KEYS[0] and UNCACHE.key_of(f"{tmp_path}/none") == ""
     for data, key in ((b"no key", ""), (b"\nKEY: \xff\n", "\ufffd"), (bytes(4089) + b"\nKEY: a\n", "a"),
                       (bytes(4095) + b"\nKEY: a\n", "")):

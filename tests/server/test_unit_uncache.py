@@ -2,6 +2,7 @@
 import os
 
 import pytest
+from support.library import cache as places
 from support.library import ends
 from support.programs import program_of
 from support.unit import ends as ends_of
@@ -41,7 +42,7 @@ def test_a_key_is_the_second_line_of_the_head_and_a_file_that_is_gone_has_none(t
 
 def test_what_is_taken_out_and_what_is_not_there_is_told(tmp_path, monkeypatch, capsys):
     for name in ("frob-1.0.whl", "frob-2.0.whl"):
-        path = UNCACHE.place(str(tmp_path), f"/files/frob/{name}")
+        path = places.place(str(tmp_path), f"/files/frob/{name}")
         os.makedirs(os.path.dirname(path))
         with open(path, "wb") as kept:
             kept.write(f"\nKEY: /files/frob/{name}\n".encode())

@@ -155,8 +155,9 @@ def left_of(cache: str, files: list[str]) -> str:
 
 
 def follow_job(program: str, folder: str) -> Job:
-    """The follower takes out what nginx's log of changes names. That stands on another disk, and the place up to which
-    it was read beside the cache. A file is away as soon as the place is behind its line."""
+    """The follower takes out what nginx's log of changes names. That stands on another disk, and beside the cache the
+    place up to which it was read, and the list for other nginx. A file is away, and in the list, as soon as the place
+    is behind its line."""
     new, log = make_index(program, f"{folder}/new.db"), f"{folder}/changes.log"
     lines = [json.dumps({"status": 200, "method": "DELETE", "path": f"/files/frob/{it}"}) + "\n" for it in FILES]
 
@@ -190,14 +191,29 @@ def follow_job(program: str, folder: str) -> Job:
         read, done = place(path), 0
         while read >= sum(map(len, lines[:done + 1])) and done < len(lines):
             done += 1
-        return left_of(f"{os.path.dirname(path)}/cache", FILES[:done])
+        return left_of(f"{os.path.dirname(path)}/cache", FILES[:done]) or unlisted(path, done)
+
+    def unlisted(path: str, done: int) -> str:
+        """Which of the first lines the list does not have."""
+        try:
+            with open(f"{os.path.dirname(path)}/removed", errors="replace", encoding="utf-8") as kept:
+                listed = kept.readlines()
+        except FileNotFoundError:
+            listed = []
+        missing = [it for it in lines[:done] if it not in listed]
+        return f"not in the list: {missing}" if missing else ""
 
     def again(path: str) -> str:
         """All that the log names goes, also if the place was lost."""
         with subprocess.Popen(words(path)) as follower:
-            is_done = wait_for(lambda: keys(f"{os.path.dirname(path)}/cache") == [OTHER], PATIENCE)
+            is_done = wait_for(lambda: not left_to_do(path), PATIENCE)
             follower.terminate()
-        return "" if is_done else "a file is not taken out"
+        return "" if is_done else left_to_do(path)
+
+    def left_to_do(path: str) -> str:
+        """What is not done of all that the log names."""
+        left = keys(f"{os.path.dirname(path)}/cache")
+        return unlisted(path, len(lines)) if left == [OTHER] else f"left in the cache: {left}"
     return Job("follow_whose_place_may_be_lost", prepare, drive, [rows_of(new)] * 2, again, meanwhile=syncs_beside,
                beside=beside)
 

@@ -8,6 +8,7 @@ if f"{SERVER}/lib" not in sys.path:
     sys.path.insert(0, f"{SERVER}/lib")
 
 from package_index import (
+    cache,
     changes,
     commands,
     database,
@@ -16,6 +17,7 @@ from package_index import (
     exchange,
     followed,
     front,
+    fronts,
     hints,
     looks,
     names,
@@ -23,5 +25,5 @@ from package_index import (
     units,
 )
 
-__all__ = ["changes", "commands", "database", "disk", "ends", "exchange", "followed", "front", "hints", "looks",
-           "names", "two_machines", "units"]
+__all__ = ["cache", "changes", "commands", "database", "disk", "ends", "exchange", "followed", "front", "fronts",
+           "hints", "looks", "names", "two_machines", "units"]

@@ -27,8 +27,9 @@ def place_in(path: str) -> Optional[Place]:
         return None
 
 
-def keep_place(path: str, place: Place) -> None:
-    put_whole(path, f"{place.inode} {place.read}\n")
+def keep_place(path: str, place: Tuple[int, object]) -> None:
+    """Also that of a list of another nginx."""
+    put_whole(path, "{} {}\n".format(*place))
 
 
 def place_of(log: BinaryIO) -> Place:

@@ -5,6 +5,7 @@ import glob
 import os
 from collections.abc import Iterable
 
+from support.library import cache
 from support.programs import program_of
 
 UNCACHE = program_of("index-uncache")
@@ -14,7 +15,7 @@ def make_cache(at: str, files: Iterable[tuple[str, str]]) -> str:
     """A folder in which nginx keeps these files, each of a project."""
     for project, file in files:
         key = f"/files/{project}/{file}"
-        path = UNCACHE.place(at, key)
+        path = cache.place(at, key)
         os.makedirs(os.path.dirname(path), exist_ok=True)
         with open(path, "w", encoding="ascii") as made:
             made.write(f"head\nKEY: {key}\nbytes")
