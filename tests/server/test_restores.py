@@ -272,7 +272,7 @@ class TestChangesSince:
             with open(path, "w") as log:
                 log.writelines(logged(begun + datetime.timedelta(seconds=it), f"change {it}") for it in numbers)
         ended, bodies = self.listed(by, "--changes", f"{by.work}/other.log")
-        assert_ends(ended, 0, "nginx passed on 5 of them")
+        assert_ends(ended, 0, "nginx passed on 5 of them", "5. nginx on other machines.")
         assert bodies == [f"change {it}" for it in range(1, 6)]
 
     def test_rotated_logs_are_read_too_and_the_oldest_first(self, by, begun):

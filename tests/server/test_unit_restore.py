@@ -374,6 +374,17 @@ def test_changes_of_several_fronts_come_oldest_first(tmp_path):
     assert said.startswith("nginx passed on 6 of them") and f"\n   There is no {tmp_path}/none.log. Look" in said
 
 
+def test_logs_of_several_fronts_keep_their_own_order_within_a_second_and_a_torn_line_its_place(tmp_path):
+    at = '{{"at":"2026-01-01T00:00:0{}+00:00","body":"{}"}}\n'.format
+    (tmp_path / "one.log").write_text(at(1, "d") + at(2, "f") + at(2, "c") + at(3, "torn")[:30])
+    (tmp_path / "two.log").write_text(at(1, "b") + at(2, "e") + at(2, "a") + at(4, "g"))
+    logs = [f"{tmp_path}/{name}.log" for name in ("one", "two")]
+    said = changes.changes_since(logs, datetime.datetime(2026, 1, 1, tzinfo=UTC), str(tmp_path / "made"))
+    made = (tmp_path / "made").read_text().splitlines()
+    assert said.startswith("nginx passed on 8 of them") and made[4] == at(3, "torn")[:30]
+    assert "".join(json.loads(it)["body"] for it in made[:4] + made[5:]) == "dbfceag"
+
+
 def test_no_log_of_changes_is_told(tmp_path):
     said = changes.changes_since([str(tmp_path / "none[1].log")], datetime.datetime.now(UTC), str(tmp_path / "made"))
     assert said.startswith(f"There is no {tmp_path}/none[1].log. Look for POST") and not (tmp_path / "made").exists()

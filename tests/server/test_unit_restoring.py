@@ -8,6 +8,10 @@ import pytest
 from support.library import ends as library_ends
 from support.library import units as library_units
 from support.programs import program_of
+from support.running import run_command
+from support.server.caches import keys, make_cache
+from support.server.expected import assert_ends
+from support.server.stand_ins import called, stand_ins
 from support.unit import calls, ends, raises
 
 RESTORE = program_of("index-restore")
@@ -134,6 +138,24 @@ def test_a_restore_tells_what_it_forgets(tmp_path, monkeypatch, capsys):
     assert "systemctl start a.service" in world.order and not (world.folder / "restoring-before").exists()
     assert said.startswith(f"{world.copy} is in its place; what was there is in {aside}\n")
     assert (aside / "changes").exists() and said.endswith((aside / "forgotten").read_text())
+
+
+def test_what_to_do_on_other_machines_of_nginx_is_told(tmp_path, monkeypatch, capsys):
+    cache = make_cache(str(tmp_path / "cache"), [("frob", "frob-1.zip")])
+    world = World(tmp_path, monkeypatch, cache=[cache])
+    world.restored()
+    assert "5. nginx on other" not in capsys.readouterr().out
+    world.words.changes *= 2
+    told = RESTORE.forgotten(world.words, str(tmp_path)).split("5. nginx on other machines.")[1].splitlines()
+    (tmp_path / "pypi.conf").touch()
+    path = stand_ins(f"{tmp_path}/bin", systemctl="exit 0")
+    # a second time too
+    for _ in range(2):
+        assert_ends(run_command(["sh", "-ec", "\n".join(told[1:3])], PATH=path), 0)
+        assert keys(cache) == [] and os.path.isdir(cache) and not (tmp_path / "pypi.conf").exists()
+    assert called(f"{tmp_path}/bin") == "systemctl reload nginx\n" and (tmp_path / "pypi.conf.off").exists()
+    world.words.cache, world.words.changes = [f"{tmp_path}/none"], None
+    assert f"find {tmp_path}/none -type f" in RESTORE.elsewhere(world.words)
 
 
 @pytest.mark.parametrize("fails", ["empty_cache", "first_answer"])
