@@ -25,13 +25,15 @@ BRIDGE = "/legacy"
 @dataclass(frozen=True)
 class Line:
     """A change that was accepted at a moment. The caller and the index are None if a log does not say them. `again` is
-    the moment of the line that a replay repeated by this one."""
+    the moment of the line that a replay repeated by this one. `unanswered` is nginx's status if it had no answer of the
+    index, which may have made the change."""
     number: int
     at: int
     caller: Optional[str]
     index: Optional[str]
     row: Dict[str, Any]
     again: Optional[int] = None
+    unanswered: Optional[int] = None
 
     @property
     def began(self) -> int:
@@ -49,23 +51,31 @@ def logged_row(found: Dict[str, Any]) -> Dict[str, Any]:
     return object_of(str(found.get("body", "")).encode()) or {}
 
 
+def is_unanswered(found: Dict[str, Any]) -> bool:
+    """Whether a line of nginx's log says that it had no answer of the index to a change. Older logs don't say whether
+    an index got it."""
+    return isinstance(found["status"], int) and found["status"] >= 500 and found.get("reached", True) is True
+
+
 def read_line(number: int, text: str) -> Optional[Line]:
-    """A line of this program's record, or of nginx's log of changes; None for one that changed nothing."""
+    """A line of this program's record, or of nginx's log of changes; None for one that changed nothing for sure."""
     found = object_of(text.encode())
     if found is None or not isinstance(found.get("at"), str):
         raise Stop(WRONG, f"Line {number} is not a line of a record: {text[:100]!r}. Use a copy without it.")
     at = read_moment(found.pop("at"))
-    caller = index = again = None
+    caller = index = again = unanswered = None
     if "status" not in found:
         caller, index, row = found.pop("caller", ""), found.pop("index", None), found
         again = read_moment(str(found.pop("again"))) if "again" in found else None
     elif found["status"] in (200, 201):
         row = logged_row(found)
+    elif is_unanswered(found):
+        row, unanswered = logged_row(found), found["status"]
     else:
         return None
     if not isinstance(row.get("do"), str) or row["do"] in FILE_ASKS and not isinstance(row.get("file"), str):
         raise Stop(WRONG, f"Line {number} does not say what was asked for: {text[:100]!r}. Use a copy without it.")
-    return Line(number, at, caller, index, row, again)
+    return Line(number, at, caller, index, row, again, unanswered)
 
 
 def read_lines(path: str) -> List[Line]:
@@ -129,6 +139,9 @@ class Attempts:
 
 def why_left(line: Line, url: str, caller: str, is_office: bool) -> str:
     """Why a line is not asked for again by this caller, or an empty text."""
+    if line.unanswered:
+        return (f"nginx answered it by {line.unanswered}, and the index may have made it or not: ask whoever asked for "
+                "it, and look at what the index has")
     if line.row == {"do": "upload", "file": ""}:
         return ("it is an upload by twine or its like, and the log does not have the file's name: let owners upload "
                 "again what is missing")

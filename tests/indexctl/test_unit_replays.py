@@ -36,6 +36,18 @@ def test_a_line_of_nginx_counts_if_it_was_accepted(status, is_one):
     assert replays.read_line(3, text) == (wanted if is_one else None)
 
 
+@pytest.mark.parametrize("status, more, unanswered", [
+    (500, {}, 500), (502, {"reached": True}, 502), (504, {"reached": True}, 504), (502, {"reached": False}, None),
+    (499, {"reached": True}, None)])
+def test_a_change_without_an_answer_is_shown_and_not_repeated(status, more, unanswered):
+    found = replays.read_line(1, logged(method="POST", path="/requests", body='{"do":"prohibit","name":"frob"}',
+                                        **{"status": status, **more}))
+    assert (found and found.unanswered) == unanswered
+    if found:
+        assert found.row == {"do": "prohibit", "name": "frob"}
+        assert replays.why_left(found, URL, ME, True).startswith(f"nginx answered it by {status}, and the index may")
+
+
 def logged(**row):
     return json.dumps({"at": "1970-01-01T00:00:10+00:00", "status": 200, **row})
 

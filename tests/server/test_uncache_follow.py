@@ -11,7 +11,7 @@ from support.programs import program_of
 from support.running import run_command
 from support.server.caches import make_cache
 from support.server.expected import assert_ends, assert_reply
-from support.server.gone import ask_and_go
+from support.server.gone import ask_and_go, request_and_be_killed
 from support.server.manager import reopen
 from support.server.pasted import block
 from support.server.waits import wait_for
@@ -77,6 +77,24 @@ def test_what_a_client_asked_for_that_is_gone_is_taken_out_too(cached, kept_inde
         assert not is_gone(cached, FILES[1])
         ask_and_go(cached, kept_index, "POST", "/requests", b'{"do":"ban_file","file":"%s"}' % FILES[1].encode())
         wait_until_gone(cached, FILES[1])
+
+
+def test_what_an_index_got_that_was_killed_is_taken_out_too(cached, kept_index):
+    """nginx can't know whether the index made the change. One that no index got takes nothing out."""
+    lines = len(cached.changes())
+    with kept_index.away():
+        assert cached.request(do="ban_file", file=FILES[1])[0] >= 500
+    kept_index.listens.wait(timeout=60)
+    assert request_and_be_killed(cached, kept_index, do="ban_file", file=FILES[0]) >= 500
+    assert wait_for(lambda: [it["reached"] for it in cached.changes()[lines:]] == [False, True])
+    with following(cached):
+        assert wait_for(lambda: FILES[0] in said_by_follower(cached))
+        assert FILES[1] not in said_by_follower(cached)
+
+
+def said_by_follower(front):
+    with open(f"{front.folder}/followed") as said:
+        return said.read()
 
 
 def test_without_it_nginx_keeps_what_is_banned(cached):
@@ -171,6 +189,17 @@ def test_a_line_says_what_is_gone(status, method, path, body, words):
     line = json.dumps({"status": status, "method": method, "path": path, "body": body})
     assert FOLLOW.removed_by(line) == words
     assert FOLLOW.removed_by(line[:-1]) == [] == FOLLOW.removed_by("7")
+
+
+@pytest.mark.parametrize("status, more, is_gone", [
+    (502, {"reached": True}, True), (504, {"reached": True}, True), (500, {"reached": True}, True),
+    (502, {"reached": False}, False), (502, {}, False), (499, {"reached": True}, False),
+    (404, {"reached": True}, False), ("502", {"reached": True}, False)])
+def test_a_change_without_an_answer_is_taken_out_if_an_index_got_it(status, more, is_gone):
+    """The index may have made it, and a file that is still there is fetched again. Nobody gets files out of the cache
+    by changes that no index gets, while it is off."""
+    line = json.dumps({"status": status, "method": "DELETE", "path": "/files/a/a-1.zip", "body": "", **more})
+    assert FOLLOW.removed_by(line) == (["a", "a-1.zip"] if is_gone else [])
 
 
 def test_a_file_that_can_not_be_taken_out_is_told_and_tried_again(tmp_path):

@@ -1,9 +1,10 @@
-"""A client that is gone before the answer to its change came."""
+"""A change whose answer nobody gets: its client is gone, or the index is killed."""
 from __future__ import annotations
 
 import os
 import signal
 import socket
+from concurrent.futures import ThreadPoolExecutor
 
 from support.server.front import Front
 from support.server.kept import Kept
@@ -17,6 +18,27 @@ def has_client(port: int) -> bool:
     end = f"0100007F:{port:04X}"
     with open("/proc/net/tcp") as table:
         return any(words[1] == end and words[3] == ESTABLISHED for words in map(str.split, table))
+
+
+def has_request(port: int) -> bool:
+    """Whether a request waits on a connection of this port of loopback, by the kernel's table."""
+    end = f"0100007F:{port:04X}"
+    with open("/proc/net/tcp") as table:
+        found = [words[4] for words in map(str.split, table) if words[1] == end and words[3] == ESTABLISHED]
+    return any(int(it.partition(":")[2], 16) for it in found)
+
+
+def request_and_be_killed(front: Front, index: Kept, **asked: object) -> int:
+    """The status by which nginx answers this request of the office. The index got it, and is killed before it reads."""
+    stopped = index.index.process.pid
+    os.kill(stopped, signal.SIGSTOP)
+    with ThreadPoolExecutor(1) as clients:
+        reply = clients.submit(front.request, **asked)
+        try:
+            assert wait_for(lambda: has_request(index.port))
+        finally:
+            os.kill(stopped, signal.SIGKILL)
+        return reply.result()[0]
 
 
 def ask_and_go(front: Front, index: Kept, method: str, path: str, body: bytes = b"") -> None:
