@@ -5,7 +5,7 @@ import sys
 from contextlib import contextmanager
 
 import pytest
-from support.library import followed
+from support.library import ends, followed
 from support.places import BIN, SERVER
 from support.programs import program_of
 from support.running import run_command
@@ -17,7 +17,7 @@ from support.server.pasted import block
 from support.server.waits import wait_for
 from support.server.watched import unit
 from support.serving import Running, accepted, sha256
-from support.unit import raises
+from support.unit import calls, raises
 
 FOLLOW = program_of("index-uncache-follow")
 FILES = "frob-8.0.tar.gz", "frob-8.1+fix.1.tar.gz", "frob-8.2-py3-none-any.whl"
@@ -173,6 +173,19 @@ def test_the_second_time_is_for_a_reply_that_was_under_way(monkeypatch, tmp_path
     FOLLOW.follow(FOLLOW.argparse.Namespace(place=f"{tmp_path}/place", log="x", cache="y", again=5, front=None))
     assert taken == [(100.0, ["a", "a-1.zip"]), (105.0, ["a", "a-1.zip"])] and kept == [(105.0, (1, 9))]
     assert (tmp_path / "removed").read_text() == f"{line}\n"
+
+
+def test_a_full_disk_keeps_nothing_in_the_cache_and_is_told_before_the_place_is_kept(monkeypatch, tmp_path):
+    lines = [json.dumps({"status": 200, "method": "DELETE", "path": f"/files/a/a-{it}.zip"}) for it in "123"]
+    read = [(line, followed.Place(1, 9)) for line in [*lines, "", ""]]
+    monkeypatch.setattr(FOLLOW, "lines_from", lambda *_: iter(read))
+    taken = calls(monkeypatch, FOLLOW, "take_out")
+    kept = calls(monkeypatch, FOLLOW, "keep_place")
+    written = calls(monkeypatch, FOLLOW.fronts, "add_line", raises(OSError(28, "no room", "/removed")))
+    with pytest.raises(ends.Refused, match="no room: '/removed'"):
+        FOLLOW.follow(FOLLOW.argparse.Namespace(place=f"{tmp_path}/place", log="x", cache="y", again=5, front=None))
+    assert [words[1] for words, _ in taken] == ["a-1.zip", "a-2.zip", "a-3.zip"] and not kept
+    assert written == [(f"{tmp_path}/removed", lines[0])]
 
 
 @pytest.mark.parametrize("status, method, path, body, words", [

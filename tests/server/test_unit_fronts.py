@@ -1,5 +1,6 @@
 """The list of what was removed through an nginx: its lines, the places in it, and what comes of it from another one."""
 import http.client
+import socket
 import ssl
 from http.server import BaseHTTPRequestHandler, HTTPServer
 
@@ -17,7 +18,8 @@ def test_a_place_is_kept_and_one_that_is_spoilt_is_none(tmp_path):
     path = str(tmp_path / "place")
     assert fronts.place_in(path) is None
     followed.keep_place(path, PLACES[1])
-    assert fronts.place_in(path) == PLACES[1]
+    # a number of bytes, as it is asked for
+    assert repr(fronts.place_in(path)) == repr(PLACES[1])
     for text in ("", "x y\n", "1\n", "1 2 3\n"):
         (tmp_path / "place").write_text(text)
         assert fronts.place_in(path) is None
@@ -31,9 +33,16 @@ def test_a_line_is_whole_behind_one_that_a_full_disk_cut_off(tmp_path):
         fronts.add_line(str(path), line)
     fronts.begin_list(str(path))
     assert path.read_text() == "a\nb\n"
-    path.write_text("a\nb")
-    fronts.add_line(str(path), "\u00fc\n")
-    assert path.read_bytes() == b"a\nb\n\xc3\xbc\n"
+    for torn in ("a\nb", "b"):
+        path.write_text(torn)
+        fronts.add_line(str(path), "\u00fc\n")
+        assert path.read_bytes() == torn.encode() + b"\n\xc3\xbc\n"
+
+
+def test_a_new_list_is_on_the_disk(tmp_path, monkeypatch):
+    synced = calls(monkeypatch, fronts, "sync")
+    fronts.begin_list(str(tmp_path / "removed"))
+    assert synced == [(str(tmp_path),)]
 
 
 def test_a_line_is_on_the_disk_before_it_is_done(tmp_path, monkeypatch):
@@ -68,6 +77,8 @@ class Answers(InThread):
         asked = self.asked = []
 
         class Handler(BaseHTTPRequestHandler):
+            protocol_version = "HTTP/1.1"
+
             def do_GET(self):
                 asked.append((self.path, self.headers["Host"], self.headers["Range"]))
                 self.send_response_only(status)
@@ -84,19 +95,18 @@ class Answers(InThread):
 @pytest.mark.parametrize("status, begin, read", [(206, 9, b"0123456789"), (200, 0, b"0123456789"), (200, 9, b"9"),
                                                  (200, 11, b""), (416, 9, b"")])
 def test_what_is_there_from_a_byte_on_is_asked_for(monkeypatch, status, begin, read):
-    with Answers(status, b"0123456789") as answers:
-        seen = calls(monkeypatch, fronts, "connect", lambda *_: fronts.http.client.socket.create_connection(
-            answers.server.server_address))
+    with Answers(status, b"0123456789") as answers, socket.create_connection(answers.server.server_address) as plain:
+        seen = calls(monkeypatch, fronts, "connect", plain)
         assert fronts.fetched(OTHER, begin, ssl.create_default_context()) == read
+        assert plain.fileno() == -1
     assert answers.asked == [("/fronts/removed", "packages.example", f"bytes={begin}-")] and seen[0][0] == OTHER
 
 
 @pytest.mark.parametrize("status, why", [(403, "its fronts.conf does not"), (404, "it has no fronts.conf"),
                                          (502, "is it an nginx of this index")])
 def test_another_answer_is_refused(monkeypatch, status, why):
-    with Answers(status, b"") as answers:
-        calls(monkeypatch, fronts, "connect", lambda *_: fronts.http.client.socket.create_connection(
-            answers.server.server_address))
+    with Answers(status, b"") as answers, socket.create_connection(answers.server.server_address) as plain:
+        calls(monkeypatch, fronts, "connect", plain)
         with pytest.raises(ends.Refused, match=f"it answers {status}: {why}"):
             fronts.fetched(OTHER, 0, ssl.create_default_context())
 
