@@ -1,8 +1,9 @@
 -- Connections that were answered, by what is known of them before and after.
-use Rattle.std.proofs.Common.{◌≡◌, ℕ, List, [], Option, Result, Ok, Err, inl, inr, refl, subst, subst₂, sym, arith}
+use Rattle.std.proofs.Common.{◌≡◌, ℕ, List, [], Option, None, Result, Ok, Err, ap, inl, inr, refl, subst, subst₂, sym, arith}
 use Rattle.index_rules.specs.Tables.{Tables}
 use Rattle.index_cli.specs.Connections.{AreOn, Came, Closed, Exchange, IsRest, KnownList, KnownReplies}
 use Rattle.index_cli.specs.declared.end.ServeEnd.{ServeEnd}
+use Rattle.index_cli.specs.declared.end.ServeEnd.TheVariants as serve_end
 use Rattle.index_cli.specs.ServesFront.{LeavingTables, ServesFirst}
 use Rattle.index_cli.specs.Serving.{IsCount, ServesByHistory, Serves}
 use Rattle.index_desk.specs.Crashes.{CallsLeaveHistory, CallsLeaveTables}
@@ -29,12 +30,21 @@ up_to : (requests : ℕ) (ended : Result (Unit {0}) ServeEnd) (count : ℕ) → 
 up_to requests (Ok done) count is = is
 up_to requests (Err early) count is = omega (arith, is)
 
-module _ (Are Are' : List Exchange → Type 0) (are : (exchanges : List Exchange) → Are exchanges → Are' exchanges) (at : Option ℕ) (requests : ℕ) (ended : Result (Unit {0}) ServeEnd) where
+-- a serve ended by the clock only if its connections did
+by_clock : (at : Option ℕ) (ended : Result (Unit {0}) ServeEnd) → (ended ≡ Err serve_end.Clock → at ≡ None) → end_of_serving ended ≡ Err (end.Connections serve_end.Clock) → at ≡ None
+by_clock at (Ok done) clock is = let no : Ok 0 ≡ Err (end.Connections serve_end.Clock) = is in absurd (cc no)
+by_clock at (Err early) clock is =
+    let both : Err (end.Connections early) ≡ Err (end.Connections serve_end.Clock) = is in
+    let same : early ≡ serve_end.Clock = cc in
+    clock (ap (λ (it : ServeEnd). Err it) same)
+
+module _ (Are Are' : List Exchange → Type 0) (are : (exchanges : List Exchange) → Are exchanges → Are' exchanges) (at : Option ℕ) (requests : ℕ) (ended : Result (Unit {0}) ServeEnd) (clock : ended ≡ Err serve_end.Clock → at ≡ None) where
   pub serves_done : (T T' : Tables) → (count : ℕ) × IsCount requests ended count × Serves Are by_tables at count T T'
       → ((h : History) → IsLegal h → StandsFor T h → (count : ℕ) × IsCount requests ended count × ServesByHistory Are h at count T')
       → AnswersConnections Are' at requests T T' (end_of_serving ended)
   serves_done T T' it by = record {
     ends = inr (ended, refl);
+    clock = by_clock at ended clock;
     tables = (it.0, up_to requests ended it.0 it.1, record { exchanges = it.2.exchanges; are = are it.2.exchanges it.2.are; answered = it.2.answered; counted = it.2.counted; are_given = it.2.are_given });
     history = λ h legal stands.
         let by_then = by h legal stands in
@@ -55,6 +65,7 @@ module _ (Are Are' : List Exchange → Type 0) (are : (exchanges : List Exchange
       → AnswersFirstConnections Are' at requests T (end_of_serving ended)
   serves_told T it by = record {
     ends = inr (ended, refl);
+    clock = by_clock at ended clock;
     tables = (it.0, up_to requests ended it.0 it.1, record { exchanges = it.2.exchanges; are = are it.2.exchanges it.2.are; answered = it.2.answered; counted = it.2.counted; are_given = it.2.are_given });
     history = λ h legal stands.
         let it = by h legal stands in
@@ -85,9 +96,16 @@ module _ (a a' : KnownList) (r r' : KnownReplies) (kept : (a' ≡ a) × (r' ≡ 
     ],
   )
 
+  none_by_clock : (at : Option ℕ) (result : Result ℕ End) → result ≡ Err early → result ≡ Err (end.Connections serve_end.Clock) → at ≡ None
+  none_by_clock at result is clock = elim fault as (λ _. at ≡ None) [
+    | inl (cause, of, listen) ↦ let no : end.Listen cause ≡ end.Connections serve_end.Clock = cc in absurd (cc no)
+    | inr told ↦ let no : end.WriteFault ≡ end.Connections serve_end.Clock = cc in absurd (cc no)
+  ]
+
   pub none_answered : (at : Option ℕ) (requests : ℕ) (T : Tables) → AnswersFirstConnections (AreAmong a a' r r') at requests T (Err early)
   none_answered at requests T = record {
     ends = (none_end requests).0;
+    clock = none_by_clock at (Err early) refl;
     tables = (0, (none_end requests).1, record { exchanges = []; are = none_are; answered = inl (T, refl); counted = refl; are_given = tt });
     history = λ h legal stands. (0, (none_end requests).1, record { exchanges = []; are = none_are; answered = inl (h, refl); counted = refl; are_given = tt });
   }

@@ -1,9 +1,10 @@
 -- Each kind of work: what it does to the tables of an index, what it reports, and what a crash may
 -- leave of it.
-use Rattle.std.specs.Prelude.{Err, IfErr, IfOk, IsErrAnd, IsTrue, List, Ok, Option, Result, ℕ, ◌≡◌}
-use Rattle.std.specs.Prelude.{◌≤◌, ◌⊎◌}
+use Rattle.std.specs.Prelude.{Err, IfErr, IfOk, IsErrAnd, IsTrue, List, None, Ok, Option, Result, ℕ}
+use Rattle.std.specs.Prelude.{◌≡◌, ◌≤◌, ◌⊎◌}
 use Rattle.index_cli.specs.declared.end.LineEnd.{LineEnd}
 use Rattle.index_cli.specs.declared.end.ServeEnd.{ServeEnd}
+use Rattle.index_cli.specs.declared.end.ServeEnd.TheVariants as serve_end
 use Rattle.index_cli.specs.Ends.{LinesEnd}
 use Rattle.index_cli.specs.Connections.{AreOn, Exchange, KnownList, KnownReplies}
 use Rattle.index_cli.specs.Connections.{unknown, unknown_replies}
@@ -101,6 +102,8 @@ pub record AnswersConnections
     (Are : List Exchange → Type 0) (at : Option ℕ) (requests : ℕ) (T T' : Tables)
     (result : Result ℕ End) : Type 0 where
   pub ends : IsServingEnd result
+  -- it ends for want of a clock only if no moment is given
+  pub clock : result ≡ Err (end.Connections serve_end.Clock) → at ≡ None
   -- the replies are what the tables say
   pub tables : (count : ℕ) × IsUpTo requests result count × Serves Are by_tables at count T T'
   -- the replies are what each legal history of the tables says, and the new tables stand for it
@@ -114,6 +117,8 @@ pub record AnswersFirstConnections
     (Are : List Exchange → Type 0) (at : Option ℕ) (requests : ℕ) (T : Tables)
     (result : Result ℕ End) : Type 0 where
   pub ends : IsServingEnd result
+  -- it ends for want of a clock only if no moment is given
+  pub clock : result ≡ Err (end.Connections serve_end.Clock) → at ≡ None
   pub tables : (count : ℕ) × IsUpTo requests result count × ServesFirst Are by_tables at count T
   pub history : (h : History) → IsLegal h → StandsFor T h
       → (count : ℕ) × IsUpTo requests result count × ServesFirst Are by_history at count h
