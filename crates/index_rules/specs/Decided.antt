@@ -1,5 +1,5 @@
 -- What a decision says of a verdict.
-use Rattle.std.specs.Prelude.{◌≡◌, Bool, false, is_some, List, [], Option, Some, None, Result, Ok}
+use Rattle.std.specs.Prelude.{◌≡◌, Bool, false, is_some, List, Option, Some, None, Result, Ok}
 use Rattle.std.specs.Prelude.{Err, find, length}
 use Rattle.std.specs.Option.{option_map_or}
 use Rattle.index_digest.specs.Digest.{read_digest, sha256}
@@ -14,6 +14,7 @@ use Rattle.index_rules.specs.declared.decision.Stop.TheVariants as stop
 use Rattle.index_rules.specs.declared.decision.context.Context.{Context}
 use Rattle.index_rules.specs.declared.change.Change.{Change}
 use Rattle.index_rules.specs.Projects.{Project}
+use Rattle.index_rules.specs.Requests.{upload_of_bytes}
 use Rattle.index_rules.specs.Maps.{Bytes, same}
 use Rattle.index_rules.specs.Facts.{Facts, facts_seen}
 use Rattle.index_rules.specs.Verdict.{Verdict, Accept, AlreadySo, Refuse, applies, verdict_of}
@@ -69,7 +70,7 @@ DecidesOnFile context file body requires result =
 abbrev pub FindsProject : Context → Bytes → Result (Option Project) Stop → Type 0
 FindsProject context body result =
     (declared : Bytes) → read_digest declared ≡ Some (sha256 body)
-    → let request = Upload [] declared body [] in
+    → let request = upload_of_bytes declared body in
     let held = the_project (facts_seen context.view.now request) in
     Finds result (verdict_seen context file_refusals request)
     (with_file context.at (length body) held)

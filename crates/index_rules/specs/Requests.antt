@@ -1,5 +1,5 @@
 -- The parts of a request that can be parsed.
-use Rattle.std.specs.Prelude.{◌≡◌, ◌⊎◌, Bool, true, false, Option, Some, None, IsSome, IsTrue}
+use Rattle.std.specs.Prelude.{◌≡◌, ◌⊎◌, [], Bool, true, false, Option, Some, None, IsSome, IsTrue}
 use Rattle.std.specs.Prelude.{option_map, Result, IfOk, IfErr}
 use Rattle.index_names.specs.Project.{read_name}
 use Rattle.index_names.specs.FileName.{read_file_name, project_of}
@@ -96,6 +96,30 @@ keys_of_request caller request = record {
   file = file_key request;
   release = release_key request;
 }
+
+-- a request that names a user and brings a token; for each other such request the same is looked up
+abbrev pub any_on_user : Bytes → Bytes → Request
+any_on_user user token = SetToken user token
+
+-- a request that names just a name; for each other such request the same is looked up
+abbrev pub any_on_name : Bytes → Request
+any_on_name name = Claim name
+
+-- a request that names a name and an owner; for each other such request the same is looked up
+abbrev pub any_on_owner : Bytes → Bytes → Request
+any_on_owner name owner = AddOwner name owner
+
+-- a request that names a name and a release; for each other such request the same is looked up
+abbrev pub any_on_release : Bytes → Bytes → Request
+any_on_release name release = Unyank name release
+
+-- a request that names just a file; for each other such request the same is looked up
+abbrev pub any_on_file : Bytes → Request
+any_on_file file = Delete file
+
+-- an upload of these bytes; to find what they are charged to, no other part of it is read
+abbrev pub upload_of_bytes : Bytes → Bytes → Request
+upload_of_bytes declared body = Upload [] declared body []
 
 -- what is looked up for a call
 abbrev pub keys_of : Call → Keys

@@ -1,9 +1,9 @@
 //! The parts of a call that can be parsed.
 ghost use Rattle.std.specs.Prelude.{◌≡◌, IfOk, IfErr, IsSome, option_map};
 ghost use Rattle.index_names.specs.FileName.{project_of};
-ghost use Rattle.index_rules.specs.declared.call.Request.TheVariants.{AddOwner, Claim, Delete, SetToken, Unyank};
 ghost use Rattle.index_rules.specs.Memory.{OkOrNoMemory};
-ghost use Rattle.index_rules.specs.Requests.{HasReadableKey, ReadsKeys, keys_of, keys_of_name};
+ghost use Rattle.index_rules.specs.Requests.{HasReadableKey, ReadsKeys, any_on_file, any_on_name, any_on_owner};
+ghost use Rattle.index_rules.specs.Requests.{any_on_release, any_on_user, keys_of, keys_of_name};
 
 use crate::answer::Fault;
 use crate::bytes::Bytes;
@@ -110,7 +110,7 @@ fn user_keys(
     user: &Bytes,
     token: &Bytes,
 ) -> Result<Keys, AllocError>
-    ensures { ReadsKeys caller (SetToken user.now token.now) result }
+    ensures { ReadsKeys caller (any_on_user user.now token.now) result }
 {
     Ok(Keys {
         caller,
@@ -124,7 +124,7 @@ fn user_keys(
 
 /// The keys of a call on a name.
 fn name_keys(alloc: Global, caller: Option<Digest256>, name: &Bytes) -> Result<Keys, AllocError>
-    ensures { ReadsKeys caller (Claim name.now) result }
+    ensures { ReadsKeys caller (any_on_name name.now) result }
 {
     Ok(Keys {
         caller,
@@ -143,7 +143,7 @@ fn owner_keys(
     name: &Bytes,
     user: &Bytes,
 ) -> Result<Keys, AllocError>
-    ensures { ReadsKeys caller (AddOwner name.now user.now) result }
+    ensures { ReadsKeys caller (any_on_owner name.now user.now) result }
 {
     Ok(Keys {
         caller,
@@ -162,7 +162,7 @@ fn release_keys(
     name: &Bytes,
     release: &Bytes,
 ) -> Result<Keys, AllocError>
-    ensures { ReadsKeys caller (Unyank name.now release.now) result }
+    ensures { ReadsKeys caller (any_on_release name.now release.now) result }
 {
     Ok(Keys {
         caller,
@@ -176,7 +176,7 @@ fn release_keys(
 
 /// The keys of a call on a file: the file, and the project that its name spells.
 fn file_keys(alloc: Global, caller: Option<Digest256>, file: &Bytes) -> Result<Keys, AllocError>
-    ensures { ReadsKeys caller (Delete file.now) result }
+    ensures { ReadsKeys caller (any_on_file file.now) result }
 {
     let file = readable_file(alloc, file)?;
     let name = project_of_file(&file)?;
