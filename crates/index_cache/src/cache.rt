@@ -21,9 +21,7 @@ use index_desk::{CachesAnswers, PageKey};
 use index_digest::Sealed;
 use index_names::{FileName, NormalName};
 use index_pages::Served;
-use index_rules::{
-    Books, Change, Fault, FileRow, FileTaker, Keys, NameRow, NameTaker, View, WalkEnd,
-};
+use index_rules::{Books, Change, Fault, FileRow, Keys, NameRow, Taker, View, WalkEnd};
 use std::alloc::Global;
 
 /// The most files that are cached.
@@ -207,7 +205,7 @@ impl<B: Books> Books for Cache<B> {
         found
     }
 
-    fn walk_held<K: NameTaker>(&mut self, alloc: Global, taker: &mut K) -> Result<(), WalkEnd>
+    fn walk_held<K: Taker<NameRow>>(&mut self, alloc: Global, taker: &mut K) -> Result<(), WalkEnd>
         ensures { WalksOrForgets B.Books self.old self.new held_rows_in
             (to_taker K.takes K.stops taker.old taker.new) result }
     {
@@ -216,7 +214,7 @@ impl<B: Books> Books for Cache<B> {
         end
     }
 
-    fn walk_files<K: FileTaker>(
+    fn walk_files<K: Taker<FileRow>>(
         &mut self,
         alloc: Global,
         name: &NormalName,

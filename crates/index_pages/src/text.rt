@@ -12,7 +12,7 @@ use crate::root::RootPage;
 use crate::served::Served;
 use index_io::{Sink, write_bytes};
 use index_names::NormalName;
-use index_rules::{FileRow, FileTaker, NameRow, NameTaker};
+use index_rules::{FileRow, NameRow, Taker};
 use std::alloc::Global;
 
 /// The most bytes of a page.
@@ -167,7 +167,7 @@ impl<'a, 'p, K: Sink, P: Page> PageText<'a, 'p, K, P, Vec<u8>> {
     }
 }
 
-impl<K: Sink> NameTaker for PageText<'_, '_, K, RootPage, Vec<u8>> {
+impl<K: Sink> Taker<NameRow> for PageText<'_, '_, K, RootPage, Vec<u8>> {
     ghost use Rattle.index_pages.specs.Left.{names_left};
     ghost use Rattle.index_pages.specs.States.{PageStops, PageTakes};
 
@@ -180,7 +180,7 @@ impl<K: Sink> NameTaker for PageText<'_, '_, K, RootPage, Vec<u8>> {
     }
 }
 
-impl<K: Sink> FileTaker for PageText<'_, '_, K, ProjectPage, Vec<u8>> {
+impl<K: Sink> Taker<FileRow> for PageText<'_, '_, K, ProjectPage, Vec<u8>> {
     ghost use Rattle.index_pages.specs.Left.{files_left};
     ghost use Rattle.index_pages.specs.States.{PageStops, PageTakes};
 

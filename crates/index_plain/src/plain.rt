@@ -7,8 +7,8 @@ use crate::table;
 use index_digest::{Digest256, Sealed};
 use index_names::{FileName, NormalName, Release};
 use index_rules::{
-    Books, CaseRecord, Change, Fault, FileRecord, FileRow, FileTaker, Keys, NameRecord, NameRow,
-    NameTaker, OpenFault, UserId, View, WalkEnd, first_user,
+    Books, CaseRecord, Change, Fault, FileRecord, FileRow, Keys, NameRecord, NameRow, OpenFault,
+    Taker, UserId, View, WalkEnd, first_user,
 };
 use index_text::Text;
 use std::alloc::Global;
@@ -208,7 +208,7 @@ impl Books for PlainBooks {
         }
     }
 
-    fn walk_held<K: NameTaker>(&mut self, _alloc: Global, taker: &mut K) -> Result<(), WalkEnd>
+    fn walk_held<K: Taker<NameRow>>(&mut self, _alloc: Global, taker: &mut K) -> Result<(), WalkEnd>
         ensures walked { HandsNames self.old (to_taker K.takes K.stops taker.old taker.new) result }
         ensures looks { PlainLooksUp self.old self.new (not (has_fault result)) }
     {
@@ -217,7 +217,7 @@ impl Books for PlainBooks {
         ended
     }
 
-    fn walk_files<K: FileTaker>(
+    fn walk_files<K: Taker<FileRow>>(
         &mut self,
         _alloc: Global,
         name: &NormalName,

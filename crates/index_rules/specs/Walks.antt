@@ -54,6 +54,15 @@ abbrev pub to_taker : {K R : Type 0} → (K → R → K → Type 0) → (K → R
     → TakerStep K R
 to_taker takes stops old new = record { takes = takes; stops = stops; old = old; new = new }
 
+-- a taker of what rows stand for, as a taker of the rows
+abbrev pub of_rows : {K X R : Type 0} → (X → R) → TakerStep K R → TakerStep K X
+of_rows stands_for taker = record {
+  takes = λ before row after. taker.takes before (stands_for row) after;
+  stops = λ before row after. taker.stops before (stands_for row) after;
+  old = taker.old;
+  new = taker.new;
+}
+
 -- a walk over these rows passes them to the taker
 abbrev pub WalksTo : {K R A : Type 0} → TakerStep K R → List R → Result A WalkEnd → Type 0
 WalksTo taker rows result = Walks taker.takes taker.stops rows taker.old taker.new result

@@ -13,7 +13,7 @@ ghost use Rattle.index_rules.specs.Walks.{Walks, WalksSome};
 use crate::answer::Fault;
 use crate::change::Change;
 use crate::keys::Keys;
-use crate::rows::{FileRow, FileTaker, NameRow, NameTaker, WalkEnd};
+use crate::rows::{FileRow, NameRow, Taker, WalkEnd};
 use crate::view::View;
 use index_digest::Sealed;
 use index_names::{FileName, NormalName};
@@ -95,7 +95,7 @@ pub trait Books {
     ///
     /// `Stopped` exactly if the taker returned `false`; that is not counted as a fault. Whatever the store does, the
     /// taker is given some rows in this way, and nothing else is done to it.
-    fn walk_held<K: NameTaker>(&mut self, alloc: Global, taker: &mut K) -> Result<(), WalkEnd>
+    fn walk_held<K: Taker<NameRow>>(&mut self, alloc: Global, taker: &mut K) -> Result<(), WalkEnd>
         ensures walked { IsHonest self.old → IsClean self.new →
             Walks K.takes K.stops (held_rows_in (tables self.old)) taker.old taker.new result }
         ensures given { WalksSome K.takes K.stops taker.old taker.new result }
@@ -107,7 +107,7 @@ pub trait Books {
     ///
     /// `Stopped` exactly if the taker returned `false`; that is not counted as a fault. Whatever the store does, the
     /// taker is given some rows in this way, and nothing else is done to it.
-    fn walk_files<K: FileTaker>(
+    fn walk_files<K: Taker<FileRow>>(
         &mut self,
         alloc: Global,
         name: &NormalName,

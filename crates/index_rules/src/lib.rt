@@ -28,6 +28,6 @@ pub use open::{OpenFault, first_user};
 pub use project::Project;
 pub use reading::read_token;
 pub use records::{CaseRecord, FileRecord, NameRecord, UserRecord};
-pub use rows::{FileRow, FileTaker, NameRow, NameTaker, WalkEnd};
+pub use rows::{FileRow, NameRow, Taker, WalkEnd};
 pub use user::{UserFault, UserId};
 pub use view::{Caller, FilesSeen, NameSeen, Owners, UsersSeen, View};

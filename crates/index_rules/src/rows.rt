@@ -52,34 +52,16 @@ impl Drop for FileRow {
     }
 }
 
-/// A taker of rows of names, one at a time.
-pub trait NameTaker {
-    ghost use Rattle.index_rules.specs.declared.rows.NameRow.{NameRow};
-
+/// A taker of rows, one at a time.
+pub trait Taker<R> {
     /// What the taker is after a row that it takes.
-    ghost takes: { Self → NameRow → Self → Type 0 };
+    ghost takes: { Self → R → Self → Type 0 };
 
     /// What the taker is after a row that it stops at.
-    ghost stops: { Self → NameRow → Self → Type 0 };
+    ghost stops: { Self → R → Self → Type 0 };
 
     /// Takes a row; or returns `false`, and wants no more rows.
-    fn take(&mut self, row: &NameRow) -> bool
-        ensures took { IsTrue result → takes self.old row.now self.new }
-        ensures stopped { result ≡ false → stops self.old row.now self.new };
-}
-
-/// A taker of rows of files, one at a time.
-pub trait FileTaker {
-    ghost use Rattle.index_rules.specs.declared.rows.FileRow.{FileRow};
-
-    /// What the taker is after a row that it takes.
-    ghost takes: { Self → FileRow → Self → Type 0 };
-
-    /// What the taker is after a row that it stops at.
-    ghost stops: { Self → FileRow → Self → Type 0 };
-
-    /// Takes a row; or returns `false`, and wants no more rows.
-    fn take(&mut self, row: &FileRow) -> bool
+    fn take(&mut self, row: &R) -> bool
         ensures took { IsTrue result → takes self.old row.now self.new }
         ensures stopped { result ≡ false → stops self.old row.now self.new };
 }

@@ -21,9 +21,7 @@ ghost use Rattle.index_tables.specs.Written.{FailsToWrite};
 
 use index_digest::Sealed;
 use index_names::{FileName, NormalName};
-use index_rules::{
-    Books, Change, Fault, FileRow, FileTaker, Keys, NameRow, NameTaker, View, WalkEnd,
-};
+use index_rules::{Books, Change, Fault, FileRow, Keys, NameRow, Taker, View, WalkEnd};
 use index_sql_schema::{IndexConnection, fault_of};
 use index_sql_writes::make_change;
 use sqlite::{Alter, Connection, Error};
@@ -177,7 +175,7 @@ impl<S: Alter> Books for SqlBooks<S> {
         rows
     }
 
-    fn walk_held<K: NameTaker>(&mut self, alloc: Global, taker: &mut K) -> Result<(), WalkEnd>
+    fn walk_held<K: Taker<NameRow>>(&mut self, alloc: Global, taker: &mut K) -> Result<(), WalkEnd>
         ensures { WalksBooks held_rows_in (with_books S.Store self.old self.new)
             (to_taker K.takes K.stops taker.old taker.new) result }
     {
@@ -187,7 +185,7 @@ impl<S: Alter> Books for SqlBooks<S> {
         ended
     }
 
-    fn walk_files<K: FileTaker>(
+    fn walk_files<K: Taker<FileRow>>(
         &mut self,
         alloc: Global,
         name: &NormalName,

@@ -11,7 +11,7 @@ ghost use Rattle.index_desk.specs.Projects.{WalksProject, project_rows_in};
 
 use super::Desk;
 use index_names::NormalName;
-use index_rules::{Books, Fault, FileRow, FileTaker, NameRecord, NameRow, NameTaker, WalkEnd};
+use index_rules::{Books, Fault, FileRow, NameRecord, NameRow, Taker, WalkEnd};
 use std::alloc::Global;
 
 impl<B: Books> Desk<B> {
@@ -72,7 +72,11 @@ impl<B: Books> Desk<B> {
     /// # Errors
     ///
     /// `Stopped` if the taker wants no more, `OutOfMemory` if memory runs out, and `Store` if the books fail.
-    pub fn walk_root<K: NameTaker>(&mut self, alloc: Global, taker: &mut K) -> Result<(), WalkEnd>
+    pub fn walk_root<K: Taker<NameRow>>(
+        &mut self,
+        alloc: Global,
+        taker: &mut K,
+    ) -> Result<(), WalkEnd>
         ensures { HandsOver B.Books self.old self.new result held_rows_in AreHeldRowsAfter
             (λ rows. Walks K.takes K.stops rows taker.old taker.new result) }
     {
@@ -85,7 +89,7 @@ impl<B: Books> Desk<B> {
     /// # Errors
     ///
     /// `Stopped` if the taker wants no more, `OutOfMemory` if memory runs out, and `Store` if the books fail.
-    pub fn walk_project<K: FileTaker>(
+    pub fn walk_project<K: Taker<FileRow>>(
         &mut self,
         alloc: Global,
         name: &NormalName,

@@ -5,9 +5,7 @@ ghost use Rattle.index_io.specs.Counts.{next_count};
 
 use index_digest::Sealed;
 use index_names::{FileName, NormalName};
-use index_rules::{
-    Books, Change, Fault, FileRow, FileTaker, Keys, NameRow, NameTaker, View, WalkEnd,
-};
+use index_rules::{Books, Change, Fault, FileRow, Keys, NameRow, Taker, View, WalkEnd};
 use index_test_support::ShortReader;
 use std::alloc::Global;
 use std::io;
@@ -82,7 +80,7 @@ pub(super) enum BooksCall {
 }
 
 /// Passes a name to a taker, as a walk does that then ends with this fault.
-fn hand_name<K: NameTaker>(taker: &mut K, row: &NameRow, fault: Fault) -> Result<(), WalkEnd>
+fn hand_name<K: Taker<NameRow>>(taker: &mut K, row: &NameRow, fault: Fault) -> Result<(), WalkEnd>
     ensures given { (rows : _) × Walks K.takes K.stops rows taker.old taker.new result }
 {
     if taker.take(row) {
@@ -93,7 +91,7 @@ fn hand_name<K: NameTaker>(taker: &mut K, row: &NameRow, fault: Fault) -> Result
 }
 
 /// Passes a file to a taker, as a walk does that then ends with this fault.
-fn hand_file<K: FileTaker>(taker: &mut K, row: &FileRow, fault: Fault) -> Result<(), WalkEnd>
+fn hand_file<K: Taker<FileRow>>(taker: &mut K, row: &FileRow, fault: Fault) -> Result<(), WalkEnd>
     ensures given { (rows : _) × Walks K.takes K.stops rows taker.old taker.new result }
 {
     if taker.take(row) {
@@ -104,7 +102,7 @@ fn hand_file<K: FileTaker>(taker: &mut K, row: &FileRow, fault: Fault) -> Result
 }
 
 /// A walk over the held names that ends with this fault after the first row.
-fn hand_first_name<B: Books, K: NameTaker>(
+fn hand_first_name<B: Books, K: Taker<NameRow>>(
     books: &mut B,
     alloc: Global,
     taker: &mut K,
@@ -120,7 +118,7 @@ fn hand_first_name<B: Books, K: NameTaker>(
 }
 
 /// A walk over the files of a name that ends with this fault after the first row.
-fn hand_first_file<B: Books, K: FileTaker>(
+fn hand_first_file<B: Books, K: Taker<FileRow>>(
     books: &mut B,
     alloc: Global,
     name: &NormalName,
@@ -204,7 +202,7 @@ impl<B: Books + Drop> FailingBooks<B> {
     }
 
     /// A walk over the held names, which is not counted.
-    fn hand_names<K: NameTaker>(&mut self, alloc: Global, taker: &mut K) -> Result<(), WalkEnd>
+    fn hand_names<K: Taker<NameRow>>(&mut self, alloc: Global, taker: &mut K) -> Result<(), WalkEnd>
         ensures { WalksSome K.takes K.stops taker.old taker.new result
             × (self.new.failures ≡ self.old.failures) }
     {
@@ -218,7 +216,7 @@ impl<B: Books + Drop> FailingBooks<B> {
     }
 
     /// A walk over the files of a name, which is not counted.
-    fn hand_files<K: FileTaker>(
+    fn hand_files<K: Taker<FileRow>>(
         &mut self,
         alloc: Global,
         name: &NormalName,
@@ -339,13 +337,17 @@ impl<B: Books + Drop> Books for FailingBooks<B> {
         found
     }
 
-    fn walk_held<K: NameTaker>(&mut self, alloc: Global, taker: &mut K) -> Result<(), WalkEnd> {
+    fn walk_held<K: Taker<NameRow>>(
+        &mut self,
+        alloc: Global,
+        taker: &mut K,
+    ) -> Result<(), WalkEnd> {
         let ended = self.hand_names(alloc, taker);
         self.count_walk(&ended);
         ended
     }
 
-    fn walk_files<K: FileTaker>(
+    fn walk_files<K: Taker<FileRow>>(
         &mut self,
         alloc: Global,
         name: &NormalName,
@@ -365,7 +367,7 @@ impl<B: Books + Drop> Books for FailingBooks<B> {
 #[derive(Drop)]
 pub(super) struct TakesAll;
 
-impl NameTaker for TakesAll {
+impl Taker<NameRow> for TakesAll {
     ghost use Rattle.std.specs.Prelude.{⊤};
 
     ghost takes = { λ _ _ _. ⊤ };
@@ -377,7 +379,7 @@ impl NameTaker for TakesAll {
     }
 }
 
-impl FileTaker for TakesAll {
+impl Taker<FileRow> for TakesAll {
     ghost use Rattle.std.specs.Prelude.{⊤};
 
     ghost takes = { λ _ _ _. ⊤ };

@@ -3,7 +3,7 @@ use index_digest::Digest256;
 use index_io::Output;
 use index_names::{FileName, NormalName, normal};
 use index_pages::{PageText, Served, project_page, root_page};
-use index_rules::{FileRow, FileTaker, NameRecord, NameRow, NameTaker, Project};
+use index_rules::{FileRow, NameRecord, NameRow, Project, Taker};
 use index_text::Text;
 use std::alloc::AllocGlobal;
 use std::process::Abort;
@@ -48,13 +48,13 @@ fn file_row(
     }
 }
 
-fn take_names<K: NameTaker>(rt: &impl Abort, taker: &mut K, rows: &[NameRow]) {
+fn take_names<K: Taker<NameRow>>(rt: &impl Abort, taker: &mut K, rows: &[NameRow]) {
     for row in rows {
         assert!(rt; taker.take(row));
     }
 }
 
-fn take_files<K: FileTaker>(rt: &impl Abort, taker: &mut K, rows: &[FileRow]) {
+fn take_files<K: Taker<FileRow>>(rt: &impl Abort, taker: &mut K, rows: &[FileRow]) {
     for row in rows {
         assert!(rt; taker.take(row));
     }

@@ -10,7 +10,7 @@ ghost use Rattle.index_plain.specs.RowsOf.{rows_of_file, rows_of_name};
 use crate::pairs;
 use crate::plain::PlainBooks;
 use index_names::{FileName, NormalName};
-use index_rules::{FileRecord, FileRow, FileTaker, NameRecord, NameRow, NameTaker, WalkEnd};
+use index_rules::{FileRecord, FileRow, NameRecord, NameRow, Taker, WalkEnd};
 use std::alloc::{AllocError, Global};
 
 impl PlainBooks {
@@ -43,7 +43,7 @@ impl PlainBooks {
     }
 
     /// Passes the held names to a taker, in byte order.
-    pub(crate) fn hand_names<K: NameTaker>(&self, taker: &mut K) -> Result<(), WalkEnd>
+    pub(crate) fn hand_names<K: Taker<NameRow>>(&self, taker: &mut K) -> Result<(), WalkEnd>
         ensures { HandsNames self.now (to_taker K.takes K.stops taker.old taker.new) result }
     {
         for (name, known) in self.names.iter() {
@@ -53,7 +53,7 @@ impl PlainBooks {
     }
 
     /// Passes the undeleted files of a name to a taker, in byte order. It looks at all files.
-    pub(crate) fn hand_files<K: FileTaker>(
+    pub(crate) fn hand_files<K: Taker<FileRow>>(
         &self,
         name: &NormalName,
         taker: &mut K,
@@ -68,7 +68,7 @@ impl PlainBooks {
     }
 
     /// Passes the row of a file to a taker, if it is an undeleted one of the name.
-    fn hand_file<K: FileTaker>(
+    fn hand_file<K: Taker<FileRow>>(
         &self,
         name: &NormalName,
         file: &FileName,
@@ -131,7 +131,7 @@ fn is_undeleted_of(known: &FileRecord, name: &NormalName) -> bool
 }
 
 /// Passes the row of a name to a taker, if the name is held.
-fn hand_name<K: NameTaker>(
+fn hand_name<K: Taker<NameRow>>(
     taker: &mut K,
     name: &NormalName,
     known: &NameRecord,

@@ -4,7 +4,7 @@ use super::requests::{claim, prohibit, upload, yank};
 use super::{OF_ABC, name, new_books};
 use index_desk::{Desk, ReportFault};
 use index_io::Output;
-use index_rules::{Answer, Books, FileRow, FileTaker, NameRow, NameTaker, WalkEnd};
+use index_rules::{Answer, Books, FileRow, NameRow, Taker, WalkEnd};
 use index_test_support::ShortWriter;
 use std::alloc::AllocGlobal;
 use std::process::Abort;
@@ -56,7 +56,7 @@ impl Shown {
     }
 }
 
-impl NameTaker for Shown {
+impl Taker<NameRow> for Shown {
     ghost use Rattle.std.specs.Prelude.{⊤};
 
     ghost takes = { λ _ _ _. ⊤ };
@@ -68,7 +68,7 @@ impl NameTaker for Shown {
     }
 }
 
-impl FileTaker for Shown {
+impl Taker<FileRow> for Shown {
     ghost use Rattle.std.specs.Prelude.{⊤};
 
     ghost takes = { λ _ _ _. ⊤ };
@@ -136,7 +136,7 @@ fn held_names<B: Books + Drop>(rt: &(impl Abort + AllocGlobal), books: B) -> Vec
 fn assert_names(rt: &(impl Abort + AllocGlobal), rows: &[NameRow], names: &str) {
     let mut shown = Shown::new(rt, 9);
     for row in rows {
-        assert!(rt; NameTaker::take(&mut shown, row));
+        assert!(rt; Taker::take(&mut shown, row));
     }
     assert!(rt; shown.names.as_str() == names);
 }

@@ -3,7 +3,7 @@ use super::{FILE, FROB, body, connection_of, new_database, new_desk};
 use index_desk::Desk;
 use index_io::Output;
 use index_names::{NormalName, normal};
-use index_rules::{Books, FileRow, FileTaker, NameRow, NameTaker};
+use index_rules::{Books, FileRow, NameRow, Taker};
 use sqlite::{Alter, Connection};
 use std::alloc::AllocGlobal;
 use std::process::Abort;
@@ -14,7 +14,7 @@ struct Count {
     rows: u64,
 }
 
-impl NameTaker for Count {
+impl Taker<NameRow> for Count {
     ghost use Rattle.std.specs.Prelude.{⊤};
 
     ghost takes = { λ _ _ _. ⊤ };
@@ -27,7 +27,7 @@ impl NameTaker for Count {
     }
 }
 
-impl FileTaker for Count {
+impl Taker<FileRow> for Count {
     ghost use Rattle.std.specs.Prelude.{⊤};
 
     ghost takes = { λ _ _ _. ⊤ };

@@ -3,7 +3,7 @@ use super::{file_row, name};
 use index_io::Output;
 use index_names::NormalName;
 use index_pages::{PageEnd, PageText, ProjectPage, Served};
-use index_rules::{FileRow, FileTaker};
+use index_rules::{FileRow, Taker};
 use index_test_support::ShortWriter;
 use std::alloc::AllocGlobal;
 use std::process::Abort;

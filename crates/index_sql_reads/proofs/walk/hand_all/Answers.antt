@@ -1,7 +1,7 @@
 use Rattle.std.proofs.Common.{◌≡◌, ◌∙◌, [], ◌∷◌, ◌++◌, inl, inr, Ok, Err, rules, sym, subst, arith, length-append}
 use Rattle.index_rules.specs.declared.answer.Fault.TheVariants as fault
 use Rattle.index_rules.proofs.WalkLemmas.{Walks-then}
-use Rattle.index_rules.specs.Walks.{to_taker}
+use Rattle.index_rules.specs.Walks.{of_rows, to_taker}
 use Rattle.index_sql_schema.specs.Faults.{fault_by}
 use Rattle.index_sql_reads.specs.Handed.{HasHanded}
 use Rattle.index_sql_schema.specs.OnStore.{on_store}
@@ -14,8 +14,6 @@ returns-in_err-hand-in-Ok-Some-clause-same_reference g c = c.next.follows.holds-
 
 pub returns-in_err-hand-in-Ok-Some-clause-handed : goal.returns-in_err-hand-in-Ok-Some-clause-handed
 returns-in_err-hand-in-Ok-Some-clause-handed g c =
-    let takes = g.H.Hand.takes in
-    let stops = g.H.Hand.stops in
     let old = c.args.rows.now.conn.now in
     let mid = c.rows.rows.conn.now in
     let now = c.next.follows.lender-at-none.conn.now in
@@ -24,14 +22,14 @@ returns-in_err-hand-in-Ok-Some-clause-handed g c =
     let row = c.in-Ok-Some.row.now in
     let end = c.in_err-hand-in-Ok-Some.field-0.0 in
     let told : c.from_residual.result ≡ Err end = search rules in
-    subst (λ result. HasHanded g.H.Hand.is_row (on_store g.S.Store old now) (to_taker takes stops c.args.taker.now c.hand.new.taker) result) (sym told) (record {
+    subst (λ result. HasHanded g.R.FromRow.is_row (on_store g.S.Store old now) (of_rows g.R.FromRow.stands_for (to_taker g.K.Taker.takes g.K.Taker.stops c.args.taker.now c.hand.new.taker)) result) (sym told) (record {
       rows = it.1 ++ row ∷ [];
-      walks = Walks-then takes stops {A = Unit {0}} it.1 (row ∷ []) c.args.taker.now c.rows.taker c.hand.new.taker (Err end) it.3 c.in_err-hand-in-Ok-Some.ensures.walks;
+      walks = Walks-then (λ before row after. g.K.Taker.takes before (g.R.FromRow.stands_for row) after) (λ before row after. g.K.Taker.stops before (g.R.FromRow.stands_for row) after) {A = Unit {0}} it.1 (row ∷ []) c.args.taker.now c.rows.taker c.hand.new.taker (Err end) it.3 c.in_err-hand-in-Ok-Some.ensures.walks;
       last = now;
       gives = λ sql params before begun. gives_on g.S.Store sql params before mid now it.1 row (it.2 sql params before begun) moved.mode moved.survives
           (λ clean. rw c.in-Ok-Some.is at (moved.same clean)) (λ clean. (rw (c.in-Ok-Some.is, c.in-Ok-Some.field-0-is) at (moved.ok clean)) sql params it.1);
       looks = nothing_done g.S.Store mid now end (λ clean. rw c.in-Ok-Some.is at (moved.same clean));
-      reason = λ clean sql params gave is. inr (inl (λ all. c.in_err-hand-in-Ok-Some.ensures.complete (last_is g.H.Hand.is_row it.1 row all) is));
+      reason = λ clean sql params gave is. inr (inl (λ all. c.in_err-hand-in-Ok-Some.ensures.complete (last_is g.R.FromRow.is_row it.1 row all) is));
     })
 
 pub returns-in-Ok-None-clause-handed : goal.returns-in-Ok-None-clause-handed
@@ -56,7 +54,7 @@ returns-in-Err-clause-handed g c =
     let it = c.rows.invariant in
     let f = fault_by c.in-Err.error in record {
       rows = it.1;
-      walks = faulted_as g.H.Hand.takes g.H.Hand.stops f c.end_of.result c.end_of.ensures it.1 c.args.taker.now c.rows.taker it.3;
+      walks = faulted_as (λ before row after. g.K.Taker.takes before (g.R.FromRow.stands_for row) after) (λ before row after. g.K.Taker.stops before (g.R.FromRow.stands_for row) after) f c.end_of.result c.end_of.ensures it.1 c.args.taker.now c.rows.taker it.3;
       last = mid;
       gives = it.2;
       looks = query_failed g.S.Store mid now c.in-Err.error f c.end_of.result c.end_of.ensures moved.mode moved.survives (λ clean. rw c.in-Err.is at (moved.kept clean));
@@ -74,7 +72,7 @@ rows-preserved g c =
       it.1 ++ row ∷ [],
       λ sql params before begun. gives_on g.S.Store sql params before mid now it.1 row (it.2 sql params before begun) moved.mode moved.survives
           (λ clean. rw c.in-Ok-Some.is at (moved.same clean)) (λ clean. (rw (c.in-Ok-Some.is, c.in-Ok-Some.field-0-is) at (moved.ok clean)) sql params it.1),
-      Walks-then g.H.Hand.takes g.H.Hand.stops it.1 (row ∷ []) c.args.taker.now c.rows.taker c.hand.new.taker (Ok (tt {0})) it.3 c.in_ok-hand-in-Ok-Some.ensures.walks,
+      Walks-then (λ before row after. g.K.Taker.takes before (g.R.FromRow.stands_for row) after) (λ before row after. g.K.Taker.stops before (g.R.FromRow.stands_for row) after) it.1 (row ∷ []) c.args.taker.now c.rows.taker c.hand.new.taker (Ok (tt {0})) it.3 c.in_ok-hand-in-Ok-Some.ensures.walks,
       omega (arith, length-append it.1 (row ∷ []), it.4),
     )
 
@@ -82,7 +80,7 @@ pub returns-clause-handed : goal.returns-clause-handed
 returns-clause-handed g c =
     let it = c.rows.invariant in record {
       rows = it.1;
-      walks = faulted g.H.Hand.takes g.H.Hand.stops fault.Store it.1 c.args.taker.now c.rows.taker it.3;
+      walks = faulted (λ before row after. g.K.Taker.takes before (g.R.FromRow.stands_for row) after) (λ before row after. g.K.Taker.stops before (g.R.FromRow.stands_for row) after) fault.Store it.1 c.args.taker.now c.rows.taker it.3;
       last = c.rows.rows.conn.now;
       gives = it.2;
       looks = given_up g.S.Store c.rows.rows.conn.now fault.Store;

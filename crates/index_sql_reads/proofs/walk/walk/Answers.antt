@@ -58,11 +58,11 @@ returns-clause-reason g c sure =
     let now = c.hand_all.new.rows.conn.now in
     let it = c.hand_all.ensures.handed in
     let result = c.hand_all.result in
-    let ends : QueryEndsForReason g.H.Hand.is_row query params (on_store g.S.Store old now) result = record {
-      reason = ends_by g.S.Store query params c.requires.plain old c.conn.invariant g.H.Hand.is_row it.last now it.rows result sure (given g c) it.looks (λ clean gave. it.reason clean query params gave);
+    let ends : QueryEndsForReason g.R.FromRow.is_row query params (on_store g.S.Store old now) result = record {
+      reason = ends_by g.S.Store query params c.requires.plain old c.conn.invariant g.R.FromRow.is_row it.last now it.rows result sure (given g c) it.looks (λ clean gave. it.reason clean query params gave);
     } in
-    subst (λ new. QueryEndsForReason g.H.Hand.is_row query params (on_store g.S.Store c.args.conn.now new) result) (search rules)
-    (subst (λ held. QueryEndsForReason g.H.Hand.is_row query params (on_store g.S.Store held now) result) c.conn.view_is ends)
+    subst (λ new. QueryEndsForReason g.R.FromRow.is_row query params (on_store g.S.Store c.args.conn.now new) result) (search rules)
+    (subst (λ held. QueryEndsForReason g.R.FromRow.is_row query params (on_store g.S.Store held now) result) c.conn.view_is ends)
 
 -- ---- if it is refused
 
@@ -80,7 +80,7 @@ invariant_of-conn g c = looks_kept g.S.Store _ _ _ c.conn.invariant (refused g c
 pub returns-in-Err-clause-handed : goal.returns-in-Err-clause-handed
 returns-in-Err-clause-handed g c = record {
   rows = [];
-  walks = faulted_as g.H.Hand.takes g.H.Hand.stops (fault_by c.in-Err.error) c.end_of.result c.end_of.ensures [] c.args.taker.now c.args.taker.now refl;
+  walks = faulted_as (λ before row after. g.K.Taker.takes before (g.R.FromRow.stands_for row) after) (λ before row after. g.K.Taker.stops before (g.R.FromRow.stands_for row) after) (fault_by c.in-Err.error) c.end_of.result c.end_of.ensures [] c.args.taker.now c.args.taker.now refl;
   shown = λ clean. inl refl;
 }
 
@@ -92,9 +92,9 @@ returns-in-Err-clause-reason g c sure =
     let old = c.conn.inside.conn in
     let now = c.query.follows.lender-at-none in
     let held = rw c.in-Err.is at c.query.follows.holds-at-none in
-    let ends : QueryEndsForReason g.H.Hand.is_row c.args.query.now (bound c.args.params.now) (on_store g.S.Store old now) (Err c.end_of.result) = record {
+    let ends : QueryEndsForReason g.R.FromRow.is_row c.args.query.now (bound c.args.params.now) (on_store g.S.Store old now) (Err c.end_of.result) = record {
       reason = λ clean is.
           let before = clean_before (state g.S.Store old) (state g.S.Store now) _ held.survives clean in
           inl (reasoned g.S.Store old now c.args.query.now (bound c.args.params.now) c.in-Err.error c.conn.invariant before sure (held.err clean) (fault_told (fault_by c.in-Err.error) (sym c.end_of.ensures ∙ is)));
     } in
-    subst (λ held. QueryEndsForReason g.H.Hand.is_row c.args.query.now (bound c.args.params.now) (on_store g.S.Store held now) (Err c.end_of.result)) c.conn.view_is ends
+    subst (λ held. QueryEndsForReason g.R.FromRow.is_row c.args.query.now (bound c.args.params.now) (on_store g.S.Store held now) (Err c.end_of.result)) c.conn.view_is ends

@@ -24,15 +24,15 @@ loop-file-preserved g c =
     let rest = c.loop-file.file-iterator in
     let left = c.next.new.self in
     let entry : Bytes × FileRecord = (c.in-Some.file.now, c.in-Some.entry.now) in
-    GoesOn-more g.K.FileTaker.takes g.K.FileTaker.stops (rows all) (rows rest) (rows_of_file (plain_tables books) c.args.name.now entry) (rows left)
+    GoesOn-more g.K.Taker.takes g.K.Taker.stops (rows all) (rows rest) (rows_of_file (plain_tables books) c.args.name.now entry) (rows left)
     c.args.taker.now c.loop-file.taker c.hand_file.new.taker c.loop-file.invariant
     (file_rows_first (plain_tables books) c.args.name.now rest left entry (rest_more deref_pair _ _ _ (c.in-Some.file, c.in-Some.entry) c.in-Some.is c.next.ensures.steps))
     c.in_ok-hand_file.ensures.walked
 
 pub returns-in_err-hand_file : goal.returns-in_err-hand_file
 returns-in_err-hand_file g c =
-    let takes = g.K.FileTaker.takes in
-    let stops = g.K.FileTaker.stops in
+    let takes = g.K.Taker.takes in
+    let stops = g.K.Taker.stops in
     let books = c.args.self.now in
     let rows = file_rows_of (plain_tables books) c.args.name.now in
     let files = books.files in
@@ -53,13 +53,13 @@ returns-in_err-hand_file g c =
 
 pub returns : goal.returns
 returns g c =
-    let takes = g.K.FileTaker.takes in
+    let takes = g.K.Taker.takes in
     let books = c.args.self.now in
     let rows = file_rows_of (plain_tables books) c.args.name.now in
     let files = books.files in
     record {
       walked = subst (λ es. Took takes (rows es) c.args.taker.now c.loop-file.taker) (sym (entries_map nat_list_cmp_total exact_bytes files c.iter-file-items.ensures.ordered))
-          (GoesOn-all takes g.K.FileTaker.stops (rows files.entries) (rows c.loop-file.file-iterator) c.args.taker.now c.loop-file.taker c.loop-file.invariant
+          (GoesOn-all takes g.K.Taker.stops (rows files.entries) (rows c.loop-file.file-iterator) c.args.taker.now c.loop-file.taker c.loop-file.invariant
           (ap rows (rest_all deref_pair _ _ _ c.in-None.is c.next.ensures.steps)));
       memory = search rules;
     }

@@ -20,15 +20,15 @@ loop-name-preserved g c =
     let rest = c.loop-name.name-iterator in
     let left = c.next.new.self in
     let entry : Bytes × NameRecord = (c.in-Some.name.now, c.in-Some.known.now) in
-    GoesOn-more g.K.NameTaker.takes g.K.NameTaker.stops (held_rows_of all) (held_rows_of rest) (held_rows_of (entry ∷ [])) (held_rows_of left)
+    GoesOn-more g.K.Taker.takes g.K.Taker.stops (held_rows_of all) (held_rows_of rest) (held_rows_of (entry ∷ [])) (held_rows_of left)
     c.args.taker.now c.loop-name.taker c.hand_name.new.taker c.loop-name.invariant
     (held_rows_first rest left entry (rest_more deref_pair _ _ _ (c.in-Some.name, c.in-Some.known) c.in-Some.is c.next.ensures.steps))
     c.in_ok-hand_name.ensures.walked
 
 pub returns-in_err-hand_name : goal.returns-in_err-hand_name
 returns-in_err-hand_name g c =
-    let takes = g.K.NameTaker.takes in
-    let stops = g.K.NameTaker.stops in
+    let takes = g.K.Taker.takes in
+    let stops = g.K.Taker.stops in
     let names = c.args.self.now.names in
     let rest = c.loop-name.name-iterator in
     let left = c.next.new.self in
@@ -47,11 +47,11 @@ returns-in_err-hand_name g c =
 
 pub returns : goal.returns
 returns g c =
-    let takes = g.K.NameTaker.takes in
+    let takes = g.K.Taker.takes in
     let names = c.args.self.now.names in
     record {
       walked = subst (λ es. Took takes (held_rows_of es) c.args.taker.now c.loop-name.taker) (sym (entries_map nat_list_cmp_total exact_bytes names c.iter-name-items.ensures.ordered))
-          (GoesOn-all takes g.K.NameTaker.stops (held_rows_of names.entries) (held_rows_of c.loop-name.name-iterator) c.args.taker.now c.loop-name.taker c.loop-name.invariant
+          (GoesOn-all takes g.K.Taker.stops (held_rows_of names.entries) (held_rows_of c.loop-name.name-iterator) c.args.taker.now c.loop-name.taker c.loop-name.invariant
           (ap held_rows_of (rest_all deref_pair _ _ _ c.in-None.is c.next.ensures.steps)));
       memory = search rules;
     }

@@ -16,6 +16,6 @@ returns g c =
     let old : BooksState _ = record { conn = c.self.inside.conn; failures = c.self.inside.failures; stores = c.self.inside.stores } in
     let count : new.failures ≡ next_count old.failures (not (has_fault c.walk_files-ended.result)) = search rules in
     let stores : CountsStoreFault old.stores new.stores (ends_by_store c.walk_files-ended.result) = search rules in
-    let taker = to_taker g.K.FileTaker.takes g.K.FileTaker.stops c.args.taker.now c.walk_files-ended.new.taker in
+    let taker = to_taker g.K.Taker.takes g.K.Taker.stops c.args.taker.now c.walk_files-ended.new.taker in
     subst (λ before. WalksBooks rows_in (with_books g.S.Store before new) taker c.walk_files-ended.result) c.self.view_is
     (walks rows_in (with_books g.S.Store old new) taker c.walk_files-ended.result c.walk_files-ended.ensures count stores)
