@@ -5,7 +5,7 @@ ghost use Rattle.index_rules.specs.TableRows.{held_rows_in, is_held_row as is_he
 ghost use Rattle.index_rules.specs.Verdict.{is_held as is_held_lem};
 ghost use Rattle.index_rules.specs.Walks.{Walks};
 ghost use Rattle.index_rules.specs.PastNames.{is_held_now, state_after};
-ghost use Rattle.index_desk.specs.Looks.{LooksAt, LooksAtBoth, HandsOver};
+ghost use Rattle.index_desk.specs.Looks.{LooksAtBoth, HandsOver};
 ghost use Rattle.index_desk.specs.PastRows.{AreHeldRowsAfter, AreProjectRowsAfter};
 ghost use Rattle.index_desk.specs.Projects.{WalksProject, project_rows_in};
 
@@ -26,7 +26,7 @@ impl<B: Books> Desk<B> {
             (λ T held. held ≡ is_held_lem (get T.names name.now))
             (λ h held. held ≡ is_held_now (state_after h name.now)) }
     {
-        is_held(&mut self.books, alloc, name)
+        self.books.is_held(alloc, name)
     }
 
     /// The held names with their records, in byte order. It changes no table.
@@ -60,7 +60,7 @@ impl<B: Books> Desk<B> {
             (λ T found. option_map (λ rows. rows.items) found ≡ project_rows_in T name.now)
             (λ h found. AreProjectRowsAfter h name.now (option_map (λ rows. rows.items) found)) }
     {
-        if !is_held(&mut self.books, alloc, name)? {
+        if !self.books.is_held(alloc, name)? {
             return Ok(None);
         }
         let rows = self.books.files_of(alloc, name)?;
@@ -99,7 +99,7 @@ impl<B: Books> Desk<B> {
             (λ T. project_rows_in T name.now) (λ h. AreProjectRowsAfter h name.now)
             (λ rows. WalksProject K.takes K.stops rows taker.old taker.new result) }
     {
-        if !is_held(&mut self.books, alloc, name)? {
+        if !self.books.is_held(alloc, name)? {
             return Ok(false);
         }
         self.books.walk_files(alloc, name, taker)?;
@@ -112,12 +112,4 @@ fn is_held_row(row: &NameRow) -> bool
     ensures { result ≡ is_held_row_lem row.now }
 {
     matches!(row.record, NameRecord::Held(_))
-}
-
-/// Whether a name is held. It changes no table.
-fn is_held<B: Books>(books: &mut B, alloc: Global, name: &NormalName) -> Result<bool, Fault>
-    ensures { LooksAt B.Books books.old books.new result
-        (λ T held. held ≡ is_held_lem (get T.names name.now)) }
-{
-    books.is_held(alloc, name)
 }
