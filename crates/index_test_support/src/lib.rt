@@ -1,5 +1,8 @@
-//! Readers and writers for tests: they give and take few bytes at a time, end early, or fail.
+//! What crates of tests share: readers and writers that give and take few bytes at a time, end early, or fail; and
+//! texts of messages.
 #![tactic(auto)]
+
+mod messages;
 
 use std::io;
 use std::io::{Error, ErrorKind, Read, Write};

@@ -15,6 +15,7 @@ use index_desk::{CachesAnswers, Desk};
 use index_io::{Failed, Input, Output};
 use index_message::Site;
 use index_rules::{Books, Fault};
+use index_test_support::{json_reply, look, post, reply};
 use std::alloc::AllocGlobal;
 use std::process::Abort;
 use std::slice;
@@ -126,50 +127,6 @@ fn answer_clients<R: Abort, B: CachesAnswers>(
         sent_on clients.new.closed.items)) by_tables (Some 2) count T T') }
 {
     answer_connections(host, clients, requests, Some(2), site, desk)
-}
-
-/// A message without a body: its method and target, and its header lines.
-macro_rules! look {
-    ($target:literal $($line:literal)*) => {
-        concat!($target, " HTTP/1.1\r\nHost: index\r\n", $($line, "\r\n",)* "\r\n")
-    };
-}
-
-/// A request in JSON, by the bearer of a token.
-macro_rules! post {
-    ($token:literal, $length:literal, $body:literal) => {
-        concat!(
-            "POST /requests HTTP/1.1\r\nX-Index-Token: ",
-            $token,
-            "\r\nContent-Length: ",
-            $length,
-            "\r\n\r\n",
-            $body
-        )
-    };
-}
-
-/// A reply with a status, header lines, and a body of this length.
-macro_rules! reply {
-    ($status:literal, [$($line:literal)*], $length:literal, $body:literal) => {
-        concat!(
-            "HTTP/1.1 ",
-            $status,
-            "\r\n",
-            $($line, "\r\n",)*
-            "Content-Length: ",
-            $length,
-            "\r\nConnection: close\r\n\r\n",
-            $body
-        )
-    };
-}
-
-/// A reply in JSON.
-macro_rules! json_reply {
-    ($status:literal, $length:literal, $body:literal) => {
-        reply!($status, ["Content-Type: application/json"], $length, $body)
-    };
 }
 
 const ACCEPTED: &str = json_reply!("200 OK", "21", r#"{"answer":"accepted"}"#);

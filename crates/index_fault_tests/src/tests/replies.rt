@@ -11,23 +11,10 @@ use index_http::{IoEnd, answer_one};
 use index_io::{Input, Output};
 use index_message::Site;
 use index_rules::{Books, Fault};
+use index_test_support::json_reply;
 use std::alloc::AllocGlobal;
 use std::io::{Read, Write};
 use std::process::Abort;
-
-/// A reply in JSON.
-macro_rules! json_reply {
-    ($status:literal, $length:literal, $body:literal) => {
-        concat!(
-            "HTTP/1.1 ",
-            $status,
-            "\r\nContent-Type: application/json\r\nContent-Length: ",
-            $length,
-            "\r\nConnection: close\r\n\r\n",
-            $body
-        )
-    };
-}
 
 /// The upload of `frob-1.0.tar.gz`, the bytes `abc`, by ann.
 pub(super) const UPLOAD: &str =

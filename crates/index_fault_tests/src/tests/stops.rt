@@ -11,6 +11,7 @@ use index_http::IoEnd;
 use index_message::Site;
 use index_rules::OpenFault;
 use index_tables::{SqlBooks, Unopened};
+use index_test_support::{json_reply, reply};
 use sqlite::{Alter, Connection, Files};
 use std::alloc::AllocGlobal;
 use std::process::Abort;
@@ -204,29 +205,13 @@ fn stop_each(
     panic!(rt; "{message}")
 }
 
-/// A reply with a status, a type, and a body of this length.
-macro_rules! reply {
-    ($status:literal, $type:literal, $length:literal, $body:literal) => {
-        concat!(
-            "HTTP/1.1 ",
-            $status,
-            "\r\nContent-Type: ",
-            $type,
-            "\r\nContent-Length: ",
-            $length,
-            "\r\nConnection: close\r\n\r\n",
-            $body
-        )
-    };
-}
-
 /// Requests for each page in JSON, a file and a standing.
 const LOOKS: &[[&str; 2]] = &[
     [
         "GET /simple/ HTTP/1.1\r\nAccept: application/vnd.pypi.simple.v1+json\r\n\r\n",
         reply!(
             "200 OK",
-            "application/vnd.pypi.simple.v1+json",
+            ["Content-Type: application/vnd.pypi.simple.v1+json"],
             "59",
             r#"{"meta":{"api-version":"1.1"},"projects":[{"name":"frob"}]}"#
         ),
@@ -235,20 +220,24 @@ const LOOKS: &[[&str; 2]] = &[
         "GET /simple/frob/ HTTP/1.1\r\nAccept: application/vnd.pypi.simple.v1+json\r\n\r\n",
         reply!(
             "200 OK",
-            "application/vnd.pypi.simple.v1+json",
+            ["Content-Type: application/vnd.pypi.simple.v1+json"],
             "236",
             r#"{"files":[{"filename":"frob-1.0.tar.gz","hashes":{"sha256":"ba7816bf8f01cfea414140de5dae2223b00361a396177a9cb410ff61f20015ad"},"size":3,"url":"/files/frob/frob-1.0.tar.gz"}],"meta":{"api-version":"1.1"},"name":"frob","versions":["1.0"]}"#
         ),
     ],
     [
         "GET /files/frob/frob-1.0.tar.gz HTTP/1.1\r\n\r\n",
-        reply!("200 OK", "application/octet-stream", "3", "abc"),
+        reply!(
+            "200 OK",
+            ["Content-Type: application/octet-stream"],
+            "3",
+            "abc"
+        ),
     ],
     [
         "GET /names/frob HTTP/1.1\r\n\r\n",
-        reply!(
+        json_reply!(
             "200 OK",
-            "application/json",
             "104",
             r#"{"case":null,"charge":3,"name":"frob","owners":["ann"],"quota":1073741824,"shown":"frob","state":"held"}"#
         ),
@@ -284,12 +273,7 @@ const CHANGES: &[[&str; 2]] = &[
             "POST /requests HTTP/1.1\r\nX-Index-Token: hello\r\nContent-Length: 28\r\n\r\n",
             r#"{"do":"claim","name":"nest"}"#
         ),
-        reply!(
-            "200 OK",
-            "application/json",
-            "21",
-            r#"{"answer":"accepted"}"#
-        ),
+        json_reply!("200 OK", "21", r#"{"answer":"accepted"}"#),
     ],
     [
         concat!(
@@ -297,21 +281,11 @@ const CHANGES: &[[&str; 2]] = &[
             "ba7816bf8f01cfea414140de5dae2223b00361a396177a9cb410ff61f20015ad",
             "\r\nContent-Length: 3\r\n\r\nabc"
         ),
-        reply!(
-            "201 Created",
-            "application/json",
-            "21",
-            r#"{"answer":"accepted"}"#
-        ),
+        json_reply!("201 Created", "21", r#"{"answer":"accepted"}"#),
     ],
     [
         "DELETE /files/frob/frob-1.0.tar.gz HTTP/1.1\r\nX-Index-Token: abc\r\n\r\n",
-        reply!(
-            "200 OK",
-            "application/json",
-            "21",
-            r#"{"answer":"accepted"}"#
-        ),
+        json_reply!("200 OK", "21", r#"{"answer":"accepted"}"#),
     ],
 ];
 

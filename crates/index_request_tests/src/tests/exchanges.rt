@@ -4,31 +4,10 @@ use index_desk::{CachesAnswers, Desk};
 use index_http::{IoEnd, answer_one};
 use index_io::{Input, Output};
 use index_message::Site;
-use index_test_support::ShortReader;
+use index_test_support::{ShortReader, json_reply, look, post, reply};
 use std::alloc::AllocGlobal;
 use std::io::{Read, Write};
 use std::process::Abort;
-
-/// A message without a body: its method and target, and its header lines.
-macro_rules! look {
-    ($target:literal $($line:literal)*) => {
-        concat!($target, " HTTP/1.1\r\nHost: index\r\n", $($line, "\r\n",)* "\r\n")
-    };
-}
-
-/// A request in JSON, by the bearer of a token.
-macro_rules! post {
-    ($token:literal, $length:literal, $body:literal) => {
-        concat!(
-            "POST /requests HTTP/1.1\r\nHost: index\r\nX-Index-Token: ",
-            $token,
-            "\r\nContent-Length: ",
-            $length,
-            "\r\n\r\n",
-            $body
-        )
-    };
-}
 
 /// An upload of `abc` to a target, with more header lines.
 macro_rules! put {
@@ -42,29 +21,6 @@ macro_rules! put {
             "ba7816bf8f01cfea414140de5dae2223b00361a396177a9cb410ff61f20015ad",
             "\r\nContent-Length: 3\r\n\r\nabc"
         )
-    };
-}
-
-/// A reply with a status, header lines, and a body of this length.
-macro_rules! reply {
-    ($status:literal, [$($line:literal)*], $length:literal, $body:literal) => {
-        concat!(
-            "HTTP/1.1 ",
-            $status,
-            "\r\n",
-            $($line, "\r\n",)*
-            "Content-Length: ",
-            $length,
-            "\r\nConnection: close\r\n\r\n",
-            $body
-        )
-    };
-}
-
-/// A reply in JSON.
-macro_rules! json_reply {
-    ($status:literal, $length:literal, $body:literal) => {
-        reply!($status, ["Content-Type: application/json"], $length, $body)
     };
 }
 

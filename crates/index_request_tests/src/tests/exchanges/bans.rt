@@ -2,6 +2,7 @@
 use super::{
     ACCEPTED, ALREADY, BYTES, CHARGED, FILE, FROB, GET, NO_FILE, PUT, USERS, assert_exchanges,
 };
+use index_test_support::{json_reply, look, post, reply};
 
 const PAGE: &str = look!("GET /simple/frob/" "Accept: application/vnd.pypi.simple.v1+json");
 

@@ -8,7 +8,7 @@ use crate::tests::{Story, assert_story};
 use index_desk::{CachesAnswers, Desk};
 use index_http::IoEnd;
 use index_message::Site;
-use index_test_support::{ShortReader, ShortWriter};
+use index_test_support::{ShortReader, ShortWriter, look};
 use std::alloc::AllocGlobal;
 use std::process::Abort;
 

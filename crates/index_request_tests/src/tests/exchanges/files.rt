@@ -2,6 +2,7 @@
 use super::{
     ACCEPTED, ALREADY, CHARGED, DELETE, FILE, FROB, GET, NO_FILE, PUT, USERS, assert_exchanges,
 };
+use index_test_support::{json_reply, look, reply};
 
 const UPLOADED: &[[&str; 2]] = &[
     [PUT, ALREADY],

@@ -6,6 +6,7 @@ use super::{
 use crate::tests::{Story, assert_story};
 use index_desk::{CachesAnswers, Desk};
 use index_message::Site;
+use index_test_support::{look, reply};
 use std::alloc::AllocGlobal;
 use std::process::Abort;
 

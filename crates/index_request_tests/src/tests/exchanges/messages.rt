@@ -1,5 +1,6 @@
 //! Malformed messages.
 use super::{ACCEPTED, CLAIM, USERS, assert_exchanges};
+use index_test_support::{json_reply, look, post, reply};
 
 const BAD_HEAD: &str = json_reply!(
     "400 Bad Request",

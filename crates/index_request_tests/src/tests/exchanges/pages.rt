@@ -1,5 +1,6 @@
 //! Pages, and redirects to them.
 use super::{FILE, FROB, NO_PROJECT, USERS, assert_exchanges};
+use index_test_support::{json_reply, look, reply};
 
 const ROOT: &str = look!("GET /simple/");
 

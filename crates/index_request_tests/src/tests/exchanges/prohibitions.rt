@@ -1,5 +1,6 @@
 //! Prohibited names, as others see them.
 use super::{ACCEPTED, CREATED, FILE, FROB, NO_FILE, NO_PROJECT, PUT, USERS, assert_exchanges};
+use index_test_support::{json_reply, look, post, reply};
 
 /// ann uploads a second file, the byte `a`, and yanks the release of the first.
 const SECOND_FILE: &[[&str; 2]] = &[

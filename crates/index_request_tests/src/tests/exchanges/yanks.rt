@@ -1,5 +1,6 @@
 //! Pages of a project whose release is yanked (PEP 592).
 use super::{ACCEPTED, ALREADY, CREATED, FILE, FROB, USERS, assert_exchanges};
+use index_test_support::{json_reply, look, post, reply};
 
 /// The page of `frob` in HTML, with a line for each file.
 macro_rules! html_page {
