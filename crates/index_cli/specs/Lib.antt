@@ -12,4 +12,5 @@ pub mod Causes
 pub mod Serving
 pub mod ServesFront
 pub mod DeskAnswers
+pub mod Waiting
 pub mod Printed

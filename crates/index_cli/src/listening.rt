@@ -1,6 +1,7 @@
 //! Connections of a TCP listener.
-ghost use Rattle.std.specs.Prelude.{◌≡◌, ⊤, true, IfSome, None};
+ghost use Rattle.std.specs.Prelude.{◌≡◌, ⊤, true, IfOk, IfSome, None, OnOk};
 ghost use Rattle.index_cli.specs.Connections.{AddsReply, no_faults, unknown, unknown_replies};
+ghost use Rattle.index_cli.specs.Waiting.{AddsBehind, HasRoom, TakesFirst};
 
 use crate::connections::{Connection, Connections};
 use index_io::{Failed, Input, Output};
@@ -141,32 +142,42 @@ fn connection_over(
     })
 }
 
-/// The next waiting connection. It first accepts all that wait, up to those left to answer: the system's queue has room
-/// for 128, and a client that finds it full tries again after a second.
+/// The first of the connections that wait. It first accepts all that wait, up to those left to answer: the system's
+/// queue has room for 128, and a client that finds it full tries again after a second.
 fn next_waiting(
     rt: &HostRuntime,
     listener: &TcpListener,
     waiting: &mut VecDeque<TcpStream>,
     left: u64,
-) -> io::Result<TcpStream> {
-    let most = MOST_WAITING.min(left as usize);
+) -> io::Result<TcpStream>
+    ensures order { IfOk result (λ first. TakesFirst waiting.old.items waiting.new.items first) }
+    // No more are accepted than are left to answer, with the one that is taken.
+    ensures most { OnOk result (HasRoom left waiting.old.items waiting.new.items) }
+{
     if listener.set_nonblocking(true).is_ok() {
-        for _try in 0..most {
-            if waiting.len() >= most {
-                break;
-            }
-            let Ok((stream, _)) = listener.accept() else {
-                break;
-            };
-            if waiting.push_back(stream).is_err() {
-                break;
-            }
-        }
+        accept_waiting(listener, waiting, MOST_WAITING.min(left as usize));
         listener.set_nonblocking(false)?;
     }
     match waiting.pop_front() {
         Some(stream) => Ok(stream),
         None => next_connection(rt, listener),
+    }
+}
+
+/// Accepts connections until none comes, or this many wait.
+fn accept_waiting(listener: &TcpListener, waiting: &mut VecDeque<TcpStream>, most: usize)
+    ensures { AddsBehind most waiting.old.items waiting.new.items }
+{
+    'tries: for _try in 0..most {
+        if waiting.len() >= most {
+            break;
+        }
+        let Ok((stream, _)) = listener.accept() else {
+            break;
+        };
+        if waiting.push_back(stream).is_err() {
+            break;
+        }
     }
 }
 
