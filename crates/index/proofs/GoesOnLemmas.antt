@@ -12,8 +12,8 @@ use Rattle.index_desk.specs.Rules.{by_history}
 use Rattle.index_http.specs.Ends.{ReplyEnds}
 use Rattle.index_http.specs.Exchanges.{Acts, MessageGetsText, RequestGetsReply}
 use Rattle.index_http.specs.Replies.{Reply}
-use Rattle.index_http.specs.declared.end.IoEnd.{IoEnd}
-use Rattle.index_http.specs.declared.end.IoEnd.TheVariants as io
+use Rattle.index_http.specs.declared.connection.IoEnd.{IoEnd}
+use Rattle.index_http.specs.declared.connection.IoEnd.TheVariants as io
 use Rattle.index_json.specs.Line.{line_of}
 use Rattle.index_json.specs.declared.line.Line.{Line}
 use Rattle.index_json.specs.declared.line.Line.TheVariants as line

@@ -10,8 +10,8 @@ use Rattle.index_http.specs.Ends.{ReplyEnds}
 use Rattle.index_http.specs.Exchanges.{InputGetsText, MessageGetsText}
 use Rattle.index_http.specs.Replies.{Reply, head_text, message_reply, reply_head, reply_text}
 use Rattle.index_http.specs.Shows.{GivesMessage, asks_page}
-use Rattle.index_http.specs.declared.end.IoEnd.{IoEnd}
-use Rattle.index_http.specs.declared.end.IoEnd.TheVariants as io_end
+use Rattle.index_http.specs.declared.connection.IoEnd.{IoEnd}
+use Rattle.index_http.specs.declared.connection.IoEnd.TheVariants as io_end
 use Rattle.index_cli.specs.Connections.{AddsReply, ClientTaken, Exchange, IsUnsent, KnownList, KnownReplies, SentReply, StreamFaults, no_faults}
 use Rattle.index_cli.specs.Serving.{ExchangeIsAnswered, ExchangesAreAnswered, EndHasCause}
 use Rattle.index_rules.specs.Maps.{Bytes}

@@ -15,12 +15,12 @@ use Rattle.index_message.specs.declared.fault.MessageFault.{MessageFault}
 use Rattle.index_message.specs.declared.fault.MessageFault.TheVariants.{BadHead, ShortBody}
 use Rattle.index_message.specs.declared.message.Message.{Message}
 use Rattle.index_message.specs.declared.message.Message.TheVariants.{Faulty, Whole}
-use Rattle.index_message.specs.declared.request.Asked.{Asked}
+use Rattle.index_message.specs.declared.message.Asked.{Asked}
 use Rattle.index_message.proofs.MessageLemmas.{at_most_one}
 use Rattle.index_http.specs.PagePasses.{MeasuresPage}
 use Rattle.index_http.specs.Shows.{GivesMessage, asks_page, is_look}
-use Rattle.index_http.specs.declared.end.IoEnd.{IoEnd}
-use Rattle.index_http.specs.declared.end.IoEnd.TheVariants as io_end
+use Rattle.index_http.specs.declared.connection.IoEnd.{IoEnd}
+use Rattle.index_http.specs.declared.connection.IoEnd.TheVariants as io_end
 use Rattle.index_rules.specs.declared.books.Books.{Ghosts}
 use Rattle.index_rules.specs.History.{History}
 use Rattle.index_rules.specs.Maps.{Bytes}

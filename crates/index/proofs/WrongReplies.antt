@@ -21,8 +21,8 @@ use Rattle.index_http.specs.Exchanges.{Acts, HasRequest, InputGetsText, IsFaultl
 use Rattle.index_http.specs.Replies.{reply_head, reply_text}
 use Rattle.index_http.specs.Sends.{SendsFirstBytes, SendsLessThanText}
 use Rattle.index_http.specs.Steps.{at_desk, to_sink}
-use Rattle.index_http.specs.declared.end.IoEnd.{IoEnd}
-use Rattle.index_http.specs.declared.end.IoEnd.TheVariants as io_end
+use Rattle.index_http.specs.declared.connection.IoEnd.{IoEnd}
+use Rattle.index_http.specs.declared.connection.IoEnd.TheVariants as io_end
 use Rattle.index_cli.specs.Connections.{ClientTaken, StreamFaults}
 use Rattle.index_cli.specs.Replies.{line_reply_text}
 use Rattle.index_cli.specs.Telling.{TextAnswersParsedLine}

@@ -5,7 +5,7 @@ use Rattle.index_io.specs.declared.sink.Sink.{Ghosts as Outs}
 use Rattle.index_io.specs.declared.source.Source.{Ghosts as Ins}
 use Rattle.index_cli.specs.Ends.{RunFailsOnly, WritesText}
 use Rattle.index_desk.specs.Takes.{Settles, Takes, TakesInTurn}
-use Rattle.index_http.specs.declared.end.IoEnd.TheVariants.{Cut}
+use Rattle.index_http.specs.declared.connection.IoEnd.TheVariants.{Cut}
 use Rattle.index_http.specs.Sends.{ReplyFailsOnly, SendsBytes, StreamFailsOnly}
 use Rattle.index_http.specs.Steps.{to_sink}
 use Rattle.index_message.specs.Reads.{from_source}

@@ -19,8 +19,8 @@ use Rattle.index_http.specs.PageShows.{PageShown}
 use Rattle.index_http.specs.Replies.{Reply, reply_text}
 use Rattle.index_http.specs.Shows.{GivesMessage, LookFails, asks_page, is_look}
 use Rattle.index_http.specs.Steps.{at_desk, to_sink}
-use Rattle.index_http.specs.declared.end.IoEnd.{IoEnd}
-use Rattle.index_http.specs.declared.end.IoEnd.TheVariants as io_end
+use Rattle.index_http.specs.declared.connection.IoEnd.{IoEnd}
+use Rattle.index_http.specs.declared.connection.IoEnd.TheVariants as io_end
 use Rattle.index_rules.specs.declared.answer.Fault.{Fault}
 use Rattle.index_rules.specs.declared.answer.Fault.TheVariants as fault
 use Rattle.index_rules.specs.declared.answer.Refusal.TheVariants.{NoProject}

@@ -32,8 +32,8 @@ use Rattle.index_http.specs.Replies.{Reply, message_reply, reply_head, reply_tex
 use Rattle.index_http.specs.Sends.{SendsHead}
 use Rattle.index_http.specs.Shows.{Look, LookShows}
 use Rattle.index_http.specs.Steps.{at_desk, to_sink}
-use Rattle.index_http.specs.declared.end.IoEnd.{IoEnd}
-use Rattle.index_http.specs.declared.end.IoEnd.TheVariants as io_end
+use Rattle.index_http.specs.declared.connection.IoEnd.{IoEnd}
+use Rattle.index_http.specs.declared.connection.IoEnd.TheVariants as io_end
 use Rattle.index_cli.specs.Connections.{KnownList, KnownReplies, StreamFaults, exchange_of}
 use Rattle.index_cli.specs.Lines.{longest_line}
 use Rattle.index_cli.specs.Replies.{KeptLineIsAnswered, LineFailsOnly, LineReportsStoreFault}

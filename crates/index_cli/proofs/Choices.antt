@@ -7,8 +7,8 @@ use Rattle.index_rules.specs.Maps.{Bytes}
 use Rattle.index_rules.specs.Tables.{Tables}
 use Rattle.index_desk.specs.Rules.{Rules}
 use Rattle.index_http.specs.Asks.{Asks, AsksFor}
-use Rattle.index_http.specs.declared.end.IoEnd.{IoEnd}
-use Rattle.index_http.specs.declared.end.IoEnd.TheVariants as io_end
+use Rattle.index_http.specs.declared.connection.IoEnd.{IoEnd}
+use Rattle.index_http.specs.declared.connection.IoEnd.TheVariants as io_end
 use Rattle.index_json.specs.Line.{line_of}
 use Rattle.index_json.specs.declared.line.Line.{Line}
 use Rattle.index_json.specs.declared.line.Line.TheVariants as line

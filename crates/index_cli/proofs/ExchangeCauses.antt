@@ -6,8 +6,8 @@ use Rattle.index_io.specs.declared.source.Source.{Ghosts as Ins}
 use Rattle.index_rules.specs.Maps.{Bytes}
 use Rattle.index_http.specs.Sends.{StreamFailsOnly, is_cut}
 use Rattle.index_http.specs.Shows.{GivesMessage, asks_page}
-use Rattle.index_http.specs.declared.end.IoEnd.{IoEnd}
-use Rattle.index_http.specs.declared.end.IoEnd.TheVariants.{Cut, OutOfMemory, ReadFault, WriteFault}
+use Rattle.index_http.specs.declared.connection.IoEnd.{IoEnd}
+use Rattle.index_http.specs.declared.connection.IoEnd.TheVariants.{Cut, OutOfMemory, ReadFault, WriteFault}
 use Rattle.index_cli.specs.Serving.{EndHasCause}
 
 -- a count that has risen, or is at its last value, is not 0

@@ -5,7 +5,7 @@ use Rattle.index_rules.specs.declared.books.Books.{Ghosts}
 use Rattle.index_rules.specs.History.{History}
 use Rattle.index_rules.specs.Tables.{Tables}
 use Rattle.index_desk.specs.Rules.{Rules}
-use Rattle.index_http.specs.declared.end.IoEnd.TheVariants.{OutOfMemory}
+use Rattle.index_http.specs.declared.connection.IoEnd.TheVariants.{OutOfMemory}
 use Rattle.index_cli.specs.Connections.{AreOn, Came, Closed, Exchange, IsRest, IsUnsent, KnownList, KnownReplies, Loses, no_faults}
 use Rattle.index_http.specs.Steps.{at_desk}
 use Rattle.index_cli.specs.Steps.{on_connections}

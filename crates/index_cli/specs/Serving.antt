@@ -19,8 +19,9 @@ use Rattle.index_http.specs.Asks.{Asks}
 use Rattle.index_http.specs.Ends.{ReplyEnds, SentBytesShowFailure}
 use Rattle.index_http.specs.Exchanges.{HasRequest, InputGetsText, IsFaultless}
 use Rattle.index_http.specs.Shows.{GivesMessage, asks_page}
-use Rattle.index_http.specs.declared.end.IoEnd.{IoEnd}
-use Rattle.index_http.specs.declared.end.IoEnd.TheVariants.{Cut, OutOfMemory, ReadFault, WriteFault}
+use Rattle.index_http.specs.declared.connection.IoEnd.{IoEnd}
+use Rattle.index_http.specs.declared.connection.IoEnd.TheVariants.{Cut, OutOfMemory}
+use Rattle.index_http.specs.declared.connection.IoEnd.TheVariants.{ReadFault, WriteFault}
 use Rattle.index_http.specs.Steps.{DeskStep, StaysHonest, at_desk}
 use Rattle.index_cli.specs.Connections.{AddsReply, ClientTaken, Exchange, IsUnsent}
 use Rattle.index_cli.specs.Steps.{ConnectionsStep}

@@ -2,7 +2,5 @@
 #![tactic(auto)]
 
 mod digest;
-mod sealed;
 
-pub use digest::Digest256;
-pub use sealed::Sealed;
+pub use digest::{Digest256, Sealed};

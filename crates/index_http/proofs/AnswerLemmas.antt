@@ -10,7 +10,7 @@ use Rattle.index_message.specs.declared.message.Message.TheVariants.{Whole}
 use Rattle.index_http.specs.Ends.{ReplyEnds}
 use Rattle.index_http.specs.Exchanges.{MessageGetsText, ShowsResource}
 use Rattle.index_http.specs.Shows.{LookEnds}
-use Rattle.index_http.specs.declared.end.IoEnd.{IoEnd}
+use Rattle.index_http.specs.declared.connection.IoEnd.{IoEnd}
 use Rattle.index_http.proofs.EndLemmas.{ends_map}
 
 -- the reply to a message, and tables after it

@@ -14,8 +14,8 @@ use Rattle.index_http.specs.Exchanges.{store_reply}
 use Rattle.index_http.specs.Replies.{Reply, reply_text}
 use Rattle.index_http.specs.Sends.{SendsText}
 use Rattle.index_http.specs.Shows.{LookFails, LookEnds, IsTextOfLook}
-use Rattle.index_http.specs.declared.end.IoEnd.{IoEnd}
-use Rattle.index_http.specs.declared.end.IoEnd.TheVariants.{ReadFault, OutOfMemory, WriteFault, Cut}
+use Rattle.index_http.specs.declared.connection.IoEnd.{IoEnd}
+use Rattle.index_http.specs.declared.connection.IoEnd.TheVariants.{ReadFault, OutOfMemory, WriteFault, Cut}
 
 -- a text that was sent and is a reply
 pub sent_ends : (IsReply : Bytes → Type 0) (Unchanged : Type 0) (text : Bytes) (before after : Option Bytes) (result : Result (Unit {0}) IoEnd)

@@ -18,8 +18,8 @@ use Rattle.index_http.specs.Exchanges.{MessageGetsText, ShowsResource, store_rep
 use Rattle.index_http.specs.Replies.{Reply, answer_reply, reply_text}
 use Rattle.index_http.specs.Sends.{SendsLessThanText, SendsText}
 use Rattle.index_http.specs.Shows.{LookFails, IsTextOfLook}
-use Rattle.index_http.specs.declared.end.IoEnd.{IoEnd}
-use Rattle.index_http.specs.declared.end.IoEnd.TheVariants.{ReadFault, OutOfMemory, WriteFault, Cut}
+use Rattle.index_http.specs.declared.connection.IoEnd.{IoEnd}
+use Rattle.index_http.specs.declared.connection.IoEnd.TheVariants.{ReadFault, OutOfMemory, WriteFault, Cut}
 
 -- ---- the reply to a fault
 

@@ -23,8 +23,8 @@ use Rattle.index_pages.specs.declared.served.Served.{Served}
 use Rattle.index_http.specs.Ends.{ReplyEnds, ReplyEndsByHistory}
 use Rattle.index_http.specs.Exchanges.{Acts, InputGetsText, IsFaultless, MessageGetsText, RequestGetsReply, ShowsFile, ShowsName, ShowsPath, ShowsProject, ShowsResource, ShowsRoot, ShowsSpelling, call_of}
 use Rattle.index_http.specs.Replies.{Reply}
-use Rattle.index_http.specs.declared.end.IoEnd.{IoEnd}
-use Rattle.index_http.specs.declared.end.IoEnd.TheVariants.{ReadFault, OutOfMemory, WriteFault, Cut}
+use Rattle.index_http.specs.declared.connection.IoEnd.{IoEnd}
+use Rattle.index_http.specs.declared.connection.IoEnd.TheVariants.{ReadFault, OutOfMemory, WriteFault, Cut}
 
 -- ---- looks
 

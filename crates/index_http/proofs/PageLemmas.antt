@@ -14,8 +14,8 @@ use Rattle.index_http.specs.PagePasses.{IsMeasured, MeasuresPage}
 use Rattle.index_http.specs.PageShows.{PageShown, after_head}
 use Rattle.index_http.specs.Replies.{page_reply}
 use Rattle.index_http.specs.Sends.{SendsFirstBytes, SendsLessThanText, SendsText}
-use Rattle.index_http.specs.declared.end.IoEnd.{IoEnd}
-use Rattle.index_http.specs.declared.end.IoEnd.TheVariants.{ReadFault, OutOfMemory, WriteFault, Cut}
+use Rattle.index_http.specs.declared.connection.IoEnd.{IoEnd}
+use Rattle.index_http.specs.declared.connection.IoEnd.TheVariants.{ReadFault, OutOfMemory, WriteFault, Cut}
 
 -- ---- the length of a page
 

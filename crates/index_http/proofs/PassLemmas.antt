@@ -30,7 +30,7 @@ use Rattle.index_pages.proofs.TextLemmas.{taken_of}
 use Rattle.index_http.specs.PagePasses.{EndsText, IsCutShort, IsOpen, KeepsTables, MeasuresPage, MeasuresText, SendsPage, WritesPageIn, WritesPageText, fault_in, fault_of, look_of_text, measured_by, sent_by}
 use Rattle.index_http.specs.Sends.{SendsLessThanText, SendsText, is_cut, is_silent, is_write_fault}
 use Rattle.index_http.specs.Steps.{DeskStep, SinkStep, StaysHonest}
-use Rattle.index_http.specs.declared.end.IoEnd.TheVariants.{Cut}
+use Rattle.index_http.specs.declared.connection.IoEnd.TheVariants.{Cut}
 use Rattle.index_http.specs.declared.page_text.TextEnd.{TextEnd}
 use Rattle.index_http.specs.declared.page_text.TextEnd.TheVariants.{Page, Walk}
 

@@ -17,7 +17,7 @@ use Rattle.index_http.specs.Replies.{Reply}
 use Rattle.index_http.specs.Shown.{LeadsTo, ReplyShowsFound, is_page_to_show, look_for}
 use Rattle.index_http.specs.Shows.{LookShows}
 use Rattle.index_http.specs.Steps.{SinkStep, at_desk}
-use Rattle.index_http.specs.declared.end.IoEnd.{IoEnd}
+use Rattle.index_http.specs.declared.connection.IoEnd.{IoEnd}
 use Rattle.index_http.specs.declared.get.ToShow.{ToShow}
 use Rattle.index_http.proofs.EndLemmas.{ends_shown_map, shown_map}
 use Rattle.index_http.proofs.Failures.{lasts_map}

@@ -21,8 +21,8 @@ use Rattle.index_http.specs.Replies.{answer_reply, reply_text}
 use Rattle.index_http.specs.Sends.{ReplyFailsOnly, is_cut, is_silent}
 use Rattle.index_http.specs.Shows.{asks_page, is_look}
 use Rattle.index_http.specs.Steps.{DeskStep, SinkStep}
-use Rattle.index_http.specs.declared.end.IoEnd.{IoEnd}
-use Rattle.index_http.specs.declared.end.IoEnd.TheVariants.{OutOfMemory}
+use Rattle.index_http.specs.declared.connection.IoEnd.{IoEnd}
+use Rattle.index_http.specs.declared.connection.IoEnd.TheVariants.{OutOfMemory}
 
 -- the call that a message makes at a moment: none if it only reads, or if its body is not a valid
 -- request

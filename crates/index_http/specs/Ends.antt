@@ -16,8 +16,9 @@ use Rattle.index_http.specs.Exchanges.{HasRequest, InputGetsText, IsFaultless}
 use Rattle.index_http.specs.Replies.{answer_reply, reply_text}
 use Rattle.index_http.specs.Sends.{SendsLessThanText, SendsText}
 use Rattle.index_http.specs.Steps.{DeskStep, SinkStep, StaysHonest}
-use Rattle.index_http.specs.declared.end.IoEnd.{IoEnd}
-use Rattle.index_http.specs.declared.end.IoEnd.TheVariants.{ReadFault, OutOfMemory, WriteFault, Cut}
+use Rattle.index_http.specs.declared.connection.IoEnd.{IoEnd}
+use Rattle.index_http.specs.declared.connection.IoEnd.TheVariants.{ReadFault, OutOfMemory}
+use Rattle.index_http.specs.declared.connection.IoEnd.TheVariants.{WriteFault, Cut}
 
 -- a reply of this kind was sent, or its first bytes, as many as the end says
 abbrev pub SendsReply : (Bytes → Type 0) → Option Bytes → Option Bytes → Result (Unit {0}) IoEnd

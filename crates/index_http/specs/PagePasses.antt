@@ -24,8 +24,8 @@ use Rattle.index_pages.specs.declared.end.PageEnd.TheVariants as page_end
 use Rattle.index_pages.specs.declared.text.PageText.{PageText}
 use Rattle.index_http.specs.Sends.{ReplyFailsOnly, SendsLessThanText, SendsText, is_cut, is_silent}
 use Rattle.index_http.specs.Steps.{DeskStep, SinkStep, StaysHonest}
-use Rattle.index_http.specs.declared.end.IoEnd.{IoEnd}
-use Rattle.index_http.specs.declared.end.IoEnd.TheVariants.{WriteFault, Cut}
+use Rattle.index_http.specs.declared.connection.IoEnd.{IoEnd}
+use Rattle.index_http.specs.declared.connection.IoEnd.TheVariants.{WriteFault, Cut}
 use Rattle.index_http.specs.declared.page_text.TextEnd.{TextEnd}
 use Rattle.index_http.specs.declared.page_text.TextEnd.TheVariants.{Page, Walk}
 

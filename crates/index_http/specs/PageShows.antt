@@ -6,8 +6,9 @@ use Rattle.index_rules.specs.declared.answer.Refusal.TheVariants.{NoProject}
 use Rattle.index_pages.specs.declared.served.Served.{Served}
 use Rattle.index_http.specs.Exchanges.{ShowsPage, refusal_reply}
 use Rattle.index_http.specs.Replies.{Reply}
-use Rattle.index_http.specs.declared.end.IoEnd.{IoEnd}
-use Rattle.index_http.specs.declared.end.IoEnd.TheVariants.{ReadFault, OutOfMemory, WriteFault, Cut}
+use Rattle.index_http.specs.declared.connection.IoEnd.{IoEnd}
+use Rattle.index_http.specs.declared.connection.IoEnd.TheVariants.{ReadFault, OutOfMemory}
+use Rattle.index_http.specs.declared.connection.IoEnd.TheVariants.{WriteFault, Cut}
 
 -- the reply with a page, or that there is none
 abbrev pub PageShown : Served → Option Bytes → Reply → Type 0

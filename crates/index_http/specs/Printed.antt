@@ -1,7 +1,8 @@
 -- The text that each end of a connection prints.
 use Rattle.std.specs.Prelude.{ℕ, List, codes}
-use Rattle.index_http.specs.declared.end.IoEnd.{IoEnd}
-use Rattle.index_http.specs.declared.end.IoEnd.TheVariants.{ReadFault, OutOfMemory, WriteFault, Cut}
+use Rattle.index_http.specs.declared.connection.IoEnd.{IoEnd}
+use Rattle.index_http.specs.declared.connection.IoEnd.TheVariants.{ReadFault, OutOfMemory}
+use Rattle.index_http.specs.declared.connection.IoEnd.TheVariants.{WriteFault, Cut}
 
 -- the name of an end, without its numbers
 abbrev pub io_end_text : IoEnd → List ℕ

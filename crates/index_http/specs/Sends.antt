@@ -8,8 +8,9 @@ use Rattle.index_io.specs.declared.source.Source.{Ghosts as Ins}
 use Rattle.index_rules.specs.Maps.{Bytes}
 use Rattle.index_message.specs.declared.head.ReadEnd.{ReadEnd}
 use Rattle.index_message.specs.declared.head.ReadEnd.TheVariants as read_end
-use Rattle.index_http.specs.declared.end.IoEnd.{IoEnd}
-use Rattle.index_http.specs.declared.end.IoEnd.TheVariants.{ReadFault, OutOfMemory, WriteFault, Cut}
+use Rattle.index_http.specs.declared.connection.IoEnd.{IoEnd}
+use Rattle.index_http.specs.declared.connection.IoEnd.TheVariants.{ReadFault, OutOfMemory}
+use Rattle.index_http.specs.declared.connection.IoEnd.TheVariants.{WriteFault, Cut}
 
 -- this many of a text's first bytes were sent
 abbrev pub SendsFirstBytes : Bytes → Option Bytes → Option Bytes → ℕ → Type 0

@@ -22,8 +22,8 @@ use Rattle.index_http.specs.Exchanges.{store_reply}
 use Rattle.index_http.specs.Replies.{Reply, reply_text}
 use Rattle.index_http.specs.Sends.{ReplyFailsOnly, SendsText}
 use Rattle.index_http.specs.Steps.{DeskStep, SinkStep}
-use Rattle.index_http.specs.declared.end.IoEnd.{IoEnd}
-use Rattle.index_http.specs.declared.end.IoEnd.TheVariants.{OutOfMemory}
+use Rattle.index_http.specs.declared.connection.IoEnd.{IoEnd}
+use Rattle.index_http.specs.declared.connection.IoEnd.TheVariants.{OutOfMemory}
 
 -- the text of a reply of this kind, or of the one to a look that failed for this cause
 abbrev pub IsTextOfLook : Bool → (Reply → Type 0) → Type 0 → Bytes → Type 0

@@ -7,7 +7,7 @@ ghost use Rattle.index_http.specs.Asks.{MessageIsAnswered};
 ghost use Rattle.index_http.specs.Steps.{at_desk, to_sink};
 ghost use Rattle.index_http.specs.Exchanges.{asked_by as asked_by_lem, asked_of_file as asked_of_file_lem, call_of as call_of_lem};
 
-use crate::end::IoEnd;
+use crate::connection::IoEnd;
 use crate::reply::{answer_reply, message_reply};
 use crate::send::send_reply;
 use index_desk::Desk;

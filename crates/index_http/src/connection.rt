@@ -1,4 +1,4 @@
-//! One connection: one message and its reply.
+//! One connection: one message, its reply, and how it ends.
 ghost use Rattle.std.specs.Prelude.{◌≡◌, ◌⊎◌, ◌+◌, true, Err};
 ghost use Rattle.index_desk.specs.Invariants.{KeepsInvariants};
 ghost use Rattle.index_desk.specs.Looks.{LeavesTables};
@@ -15,15 +15,71 @@ ghost use Rattle.index_http.specs.Shows.{GivesMessage, asks_page, is_look};
 ghost use Rattle.index_http.specs.Steps.{at_desk, to_sink};
 
 use crate::change::act;
-use crate::end::IoEnd;
 use crate::get::show;
 use crate::reply::message_reply;
 use crate::send::send_reply;
 use index_desk::{CachesAnswers, Desk};
 use index_io::{Sink, Source};
-use index_message::{Message, Site, read_message};
+use index_message::{Message, ReadEnd, Site, read_message};
 use index_rules::Bytes;
-use std::alloc::Global;
+use std::alloc::{AllocError, Global};
+use std::error::Error;
+use std::fmt;
+
+/// Why a connection ended before its reply was whole.
+#[derive(Clone, Copy, Debug, PartialEq, Eq, Hash)]
+pub enum IoEnd {
+    /// A read failed. Nothing was applied or written.
+    ReadFault,
+    /// Memory ran out before anything was written. Nothing was applied, or the message only reads.
+    OutOfMemory,
+    /// A write failed or took no byte, after this many bytes of the reply. What the message changed stands.
+    WriteFault(u64),
+    /// The store failed, memory ran out or the page was too long, after this many bytes of the reply. No table was
+    /// changed.
+    Cut(u64),
+}
+
+impl fmt::Display for IoEnd {
+    ghost use Rattle.std.specs.Prelude.{Some};
+    ghost use Rattle.index_http.specs.Printed.{io_end_text};
+
+    ghost output = { λ end. Some (io_end_text end) };
+
+    fn fmt<W: fmt::Write>(&self, f: &mut fmt::Formatter<W>) -> fmt::Result {
+        f.write_str(match self {
+            IoEnd::ReadFault => "ReadFault",
+            IoEnd::OutOfMemory => "OutOfMemory",
+            IoEnd::WriteFault(_) => "WriteFault",
+            IoEnd::Cut(_) => "Cut",
+        })
+    }
+}
+
+impl Error for IoEnd {}
+
+impl From<AllocError> for IoEnd {
+    ghost use Rattle.index_http.specs.declared.connection.IoEnd.TheVariants.{OutOfMemory};
+
+    ghost from_gives = { λ _ end. end ≡ OutOfMemory };
+
+    fn from(_error: AllocError) -> IoEnd {
+        IoEnd::OutOfMemory
+    }
+}
+
+impl From<ReadEnd> for IoEnd {
+    ghost use Rattle.index_http.specs.Sends.{io_end_of_read};
+
+    ghost from_gives = { λ read end. end ≡ io_end_of_read read };
+
+    fn from(end: ReadEnd) -> IoEnd {
+        match end {
+            ReadEnd::ReadFault => IoEnd::ReadFault,
+            ReadEnd::OutOfMemory => IoEnd::OutOfMemory,
+        }
+    }
+}
 
 /// Reads one message, applies it or looks up what it asks for, and writes the reply. `at` is in Unix seconds. A reply
 /// to an applied request takes no memory.

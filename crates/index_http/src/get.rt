@@ -11,7 +11,7 @@ ghost use Rattle.index_http.specs.Shown.{LeadsTo, ReplyShowsFound, can_be_read, 
 ghost use Rattle.index_http.specs.Shows.{LookShows, is_page, look_at_no_page, look_of};
 ghost use Rattle.index_http.specs.Steps.{at_desk, to_sink};
 
-use crate::end::IoEnd;
+use crate::connection::IoEnd;
 use crate::page_replies::show_page;
 use crate::reply::{
     Reply, file_reply, json_reply, message_reply, redirect_to_project, redirect_to_root,

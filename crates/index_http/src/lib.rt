@@ -3,8 +3,6 @@
 
 mod change;
 mod connection;
-mod end;
-mod gather;
 mod get;
 mod page_passes;
 mod page_replies;
@@ -12,5 +10,4 @@ mod page_text;
 mod reply;
 mod send;
 
-pub use connection::answer_one;
-pub use end::IoEnd;
+pub use connection::{IoEnd, answer_one};

@@ -4,7 +4,7 @@ ghost use Rattle.index_desk.specs.Pages.{page_in};
 ghost use Rattle.index_http.specs.PagePasses.{MeasuresText, SendsPage, measured_by, sent_by};
 ghost use Rattle.index_http.specs.Steps.{at_desk, to_sink};
 
-use crate::end::IoEnd;
+use crate::connection::IoEnd;
 use crate::page_text::{TextEnd, write_page};
 use index_desk::{Desk, PageKey};
 use index_io::{Output, Sink};

@@ -9,9 +9,9 @@ ghost use Rattle.index_http.specs.Sends.{ReplyFailsOnly, SendsBytes, SendsLessTh
 ghost use Rattle.index_http.specs.Shows.{LookShows, look_at_page};
 ghost use Rattle.index_http.specs.Steps.{StaysHonest, at_desk, to_sink};
 
-use crate::end::IoEnd;
-use crate::gather::gathered_text;
+use crate::connection::IoEnd;
 use crate::page_passes::{length_of, send_text};
+use crate::page_text::gathered_text;
 use crate::reply::{Fields, page_reply, refusal_reply};
 use crate::send::{send_fault, send_head, send_reply};
 use http::StatusCode;

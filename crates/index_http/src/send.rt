@@ -6,7 +6,7 @@ ghost use Rattle.index_http.specs.Replies.{IsFixed, IsShortText, fields_text, he
 ghost use Rattle.index_http.specs.Sends.{ReplyFailsOnly, SendsBytes, SendsHead};
 ghost use Rattle.index_http.specs.Shows.{LookFails};
 
-use crate::end::IoEnd;
+use crate::connection::IoEnd;
 use crate::reply::{Fields, Reply, store_reply};
 use http::StatusCode;
 use index_io::{Sink, write_pieces};

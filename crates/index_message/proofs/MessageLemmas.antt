@@ -22,7 +22,7 @@ use Rattle.index_message.specs.declared.resource.Route.{Route}
 use Rattle.index_message.specs.declared.fault.MessageFault.{MessageFault}
 use Rattle.index_message.specs.declared.fault.MessageFault.TheVariants.{ShortBody}
 use Rattle.index_message.specs.declared.message.Message.TheVariants.{Faulty}
-use Rattle.index_message.specs.declared.request.Asked.{Asked}
+use Rattle.index_message.specs.declared.message.Asked.{Asked}
 use Rattle.index_message.specs.declared.message.Message.{Message}
 
 -- what a source gave and what it has left are its input

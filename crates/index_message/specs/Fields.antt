@@ -7,8 +7,8 @@ use Rattle.index_rules.specs.Maps.{Bytes}
 use Rattle.httparse.specs.Grammar.{RequestHead}
 use Rattle.httparse.specs.Spans.{header_bytes, name_and_value}
 use Rattle.httparse.specs.declared.spans.HeaderSpan.{HeaderSpan}
-use Rattle.index_message.specs.declared.request.Found.{Found}
-use Rattle.index_message.specs.declared.request.Found.TheVariants.{Missing, Once, Again}
+use Rattle.index_message.specs.declared.head.Found.{Found}
+use Rattle.index_message.specs.declared.head.Found.TheVariants.{Missing, Once, Again}
 
 -- a header field: its name, and its value without the white space around it
 abbrev pub Field : Type 0

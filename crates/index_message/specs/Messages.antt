@@ -22,7 +22,7 @@ use Rattle.index_message.specs.declared.fault.MessageFault.TheVariants.{BadHead,
 use Rattle.index_message.specs.declared.fault.MessageFault.TheVariants.{ShortBody}
 use Rattle.index_message.specs.declared.head.ReadEnd.{ReadEnd}
 use Rattle.index_message.specs.declared.head.ReadEnd.TheVariants.{OutOfMemory, ReadFault}
-use Rattle.index_message.specs.declared.request.Asked.{Asked}
+use Rattle.index_message.specs.declared.message.Asked.{Asked}
 use Rattle.index_message.specs.declared.message.Message.{Message}
 use Rattle.index_message.specs.declared.message.Message.TheVariants.{Faulty, Whole}
 use Rattle.index_message.specs.declared.resource.Method.{Method}

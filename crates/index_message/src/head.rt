@@ -1,13 +1,20 @@
-//! The head of a request, read in pieces of any size.
+//! The head of a request, read in pieces of any size: its header fields, as spans of its bytes, and the length of its
+//! body.
 ghost use Rattle.std.specs.Prelude.{◌≡◌, ◌≤◌, ◌<◌, [], length, vec_len, None, Ok, IfOk, IfSome, OnOk};
+ghost use Rattle.httparse.specs.Spans.{IsHeaderWithin, header_bytes};
+ghost use Rattle.index_message.specs.Fields.{AreFound, is_named as is_named_lem, values_of};
 ghost use Rattle.index_message.specs.Heads.{HasNoHead, IsHeadAt, ReadFailsInHead, Tries, longest_head, most_fields};
+ghost use Rattle.index_message.specs.Lengths.{at_most as at_most_lem, body_length as body_length_lem, length_in as length_in_lem, length_value, longest_upload};
 ghost use Rattle.index_message.specs.Messages.{begins_with_head};
 ghost use Rattle.index_message.specs.Reads.{FillsTo, GivesBytes, ReadsOnce, SourceReadsWithin, and_left, from_source};
 
+use crate::fault::MessageFault;
+use crate::resource::Method;
 use httparse::Status;
 use httparse::spans::{HeaderSpan, RequestSpans, parse_request};
 use index_io::Source;
 use std::alloc::AllocError;
+use std::marker::Model;
 
 /// The most bytes of a head.
 const LONGEST_HEAD: usize = 16_384;
@@ -17,6 +24,12 @@ pub const MOST_FIELDS: usize = 64;
 
 /// The most bytes that are asked for in one read.
 const PIECE: usize = 4096;
+
+/// The most bytes of an uploaded file.
+const LONGEST_UPLOAD: u64 = 16_777_216;
+
+/// The most bytes of a request in JSON.
+const LONGEST_REQUEST: u64 = 65_536;
 
 /// Why nothing was read.
 #[derive(Clone, Copy, Debug, PartialEq, Eq)]
@@ -119,4 +132,132 @@ impl From<AllocError> for ReadEnd {
     fn from(_error: AllocError) -> ReadEnd {
         ReadEnd::OutOfMemory
     }
+}
+
+/// How often a field occurs in a head.
+#[derive(Clone, Copy)]
+pub enum Found<'a> {
+    Missing,
+    Once(&'a [u8]),
+    Again,
+}
+
+/// Whether a field has this name, in any case.
+pub fn is_named(bytes: &[u8], field: &HeaderSpan, name: &[u8]) -> bool
+    requires { IsHeaderWithin (length bytes.now) field.now }
+    ensures { result ≡ is_named_lem name.now (header_bytes bytes.now field.now) }
+{
+    field.name.of(bytes).eq_ignore_ascii_case(name)
+}
+
+/// A head, as spans of the bytes that came. Contracts see its parts.
+#[derive(Drop)]
+pub struct Head<'a> {
+    pub bytes: &'a [u8],
+    pub spans: &'a RequestSpans,
+    pub fields: &'a [HeaderSpan],
+}
+
+impl<'a> Model for Head<'a> {
+    ghost use Rattle.std.specs.Prelude.{All, length, map};
+    ghost use Rattle.httparse.specs.Spans.{IsHeaderWithin, IsWithin, header_bytes, span_bytes};
+    ghost use Rattle.index_message.specs.Requests.{HeadParts};
+
+    ghost Value = { HeadParts };
+
+    ghost view = { λ h. record {
+      method = span_bytes h.bytes.now h.spans.now.method;
+      target = span_bytes h.bytes.now h.spans.now.path;
+      fields = map (header_bytes h.bytes.now) h.fields.now;
+    } };
+
+    ghost invariant = { λ h. IsWithin (length h.bytes.now) h.spans.now.method
+        × (IsWithin (length h.bytes.now) h.spans.now.path
+        × All (IsHeaderWithin (length h.bytes.now)) h.fields.now) };
+}
+
+impl<'a> Head<'a> {
+    /// The length in bytes of the body that is read. Only `PUT` and `POST` have one.
+    #[tactic(auto, unfolding(crate::specs::Lengths::body_length))]
+    pub fn body_length(&self, method: Method) -> Result<u64, MessageFault>
+        ensures length { result ≡ body_length_lem method self.now.fields }
+        ensures bound { IfOk result (λ number. number ≤ longest_upload) }
+    {
+        match method {
+            Method::Put => self.length_in(LONGEST_UPLOAD),
+            Method::Post => self.length_in(LONGEST_REQUEST),
+            _ => Ok(0),
+        }
+    }
+
+    /// The length in the fields, up to a limit.
+    fn length_in(&self, limit: u64) -> Result<u64, MessageFault>
+        ensures length { result ≡ length_in_lem limit self.now.fields }
+        ensures bound { IfOk result (λ number. number ≤ limit) }
+    {
+        match self.find(b"transfer-encoding") {
+            Found::Missing => {}
+            _ => return Err(MessageFault::BadLength),
+        }
+        match self.find(b"content-length") {
+            Found::Missing => Err(MessageFault::NoLength),
+            Found::Once(value) => at_most(limit, number_of(value)),
+            Found::Again => Err(MessageFault::BadLength),
+        }
+    }
+
+    /// How often a field with this name occurs in the head.
+    fn find(&self, name: &[u8]) -> Found<'a>
+        ensures { AreFound result (values_of name.now self.now.fields) }
+    {
+        let bytes = self.bytes;
+        let fields = self.fields;
+        let mut found = None;
+        for field in fields {
+            if is_named(bytes, field, name) {
+                if found.is_some() {
+                    return Found::Again;
+                }
+                found = Some(field.value.of(bytes));
+            }
+        }
+        match found {
+            Some(value) => Found::Once(value),
+            None => Found::Missing,
+        }
+    }
+}
+
+/// A number up to the limit. `BadLength` if the value was not a number, `BodyTooLarge` above the limit.
+fn at_most(limit: u64, number: Option<u64>) -> Result<u64, MessageFault>
+    ensures length { result ≡ at_most_lem limit number }
+    ensures bound { IfOk result (λ number. number ≤ limit) }
+{
+    match number {
+        None => Err(MessageFault::BadLength),
+        Some(number) => {
+            if number > limit {
+                Err(MessageFault::BodyTooLarge)
+            } else {
+                Ok(number)
+            }
+        }
+    }
+}
+
+/// The number of a text of 1 to 18 digits.
+fn number_of(value: &[u8]) -> Option<u64>
+    ensures { result ≡ length_value value.now }
+{
+    if value.is_empty() || value.len() > 18 {
+        return None;
+    }
+    let mut number = 0u64;
+    for digit in value {
+        if !digit.is_ascii_digit() {
+            return None;
+        }
+        number = number * 10 + u64::from(*digit - b'0');
+    }
+    Some(number)
 }

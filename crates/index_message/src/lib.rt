@@ -5,11 +5,9 @@ mod fault;
 mod head;
 pub mod laws;
 mod message;
-mod request;
 mod resource;
 
 pub use fault::{Allowed, MessageFault};
 pub use head::ReadEnd;
-pub use message::{Message, read_message};
-pub use request::HttpRequest;
+pub use message::{HttpRequest, Message, read_message};
 pub use resource::{Method, Resource, Site};

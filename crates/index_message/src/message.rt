@@ -1,21 +1,21 @@
-//! One message, read from any source.
+//! One message, read from any source: a request and its body, or a fault.
 ghost use Rattle.std.specs.Prelude.{◌≡◌, ◌≤◌, ◌-◌, true, length, Err, IfErr, IfOk, All};
 ghost use Rattle.httparse.specs.Spans.{IsHeaderWithin, IsRequestWithin};
-ghost use Rattle.index_message.specs.Fields.{fields_at};
+ghost use Rattle.index_message.specs.Fields.{AreValues, fields_at, value_of, values_of};
 ghost use Rattle.index_message.specs.Lengths.{longest_upload};
-ghost use Rattle.index_message.specs.Messages.{BeginsWith, GivesBody, MayHaveHead, ReadFailsInMessage, ReadsRest, asked_in, is_head_name, longest_message, whole_of};
+ghost use Rattle.index_message.specs.Messages.{BeginsWith, GivesBody, MayHaveHead, ReadFailsInMessage, ReadsRest, asked_in, is_head_name, longest_message, request_asked, whole_of};
 ghost use Rattle.index_message.specs.Reads.{ReadEndsEarly, SourceReadsWithin, from_source};
 ghost use Rattle.index_message.specs.Resources.{has_route};
 ghost use Rattle.index_message.specs.declared.message.Message.TheVariants.{Faulty};
 
 use crate::fault::MessageFault;
-use crate::head::{MOST_FIELDS, ReadEnd, read_head, read_up_to};
-use crate::request::{Asked, Head, HttpRequest};
-use crate::resource::{Site, resolve_target};
+use crate::head::{Head, MOST_FIELDS, ReadEnd, is_named, read_head, read_up_to};
+use crate::resource::{Method, Resource, Site, resolve_target};
 use httparse::spans::{EMPTY_HEADER_SPAN, HeaderSpan, RequestSpans};
 use index_io::Source;
 use index_rules::Bytes;
 use std::alloc::{AllocError, Global};
+use std::marker::Model;
 
 /// The message of a connection.
 #[derive(Drop)]
@@ -159,4 +159,115 @@ fn whole_message(
         request: HttpRequest::new(asked, bytes, fields),
         body,
     })
+}
+
+/// What the request line and the fields of a head ask for.
+pub struct Asked {
+    pub resource: Resource,
+    pub method: Method,
+    /// The length of the body in bytes.
+    pub length: u64,
+}
+
+// By hand: a drop is then one call at each exit of a function (docs/developers/PROOF-COSTS.md).
+impl Drop for Asked {
+    fn drop(self) {
+        let Asked {
+            resource: _resource,
+            method: _method,
+            length: _length,
+        } = self;
+    }
+}
+
+/// The head of a request with one of the resource's methods. Contracts see its parts.
+pub struct HttpRequest {
+    asked: Asked,
+    bytes: Vec<u8>,
+    fields: Vec<HeaderSpan>,
+}
+
+// By hand, as above.
+impl Drop for HttpRequest {
+    fn drop(self) {
+        let HttpRequest {
+            asked: _asked,
+            bytes: _bytes,
+            fields: _fields,
+        } = self;
+    }
+}
+
+impl Model for HttpRequest {
+    ghost use Rattle.std.specs.Prelude.{All, length, map};
+    ghost use Rattle.httparse.specs.Spans.{IsHeaderWithin, header_bytes};
+    ghost use Rattle.index_message.specs.Requests.{HttpRequest};
+
+    ghost Value = { HttpRequest };
+
+    ghost view = { λ r. record {
+      method = r.asked.method;
+      resource = r.asked.resource;
+      fields = map (header_bytes r.bytes.items) r.fields.items;
+    } };
+
+    ghost invariant = { λ r. All (IsHeaderWithin (length r.bytes.items)) r.fields.items };
+}
+
+impl HttpRequest {
+    /// The method, which is one of the resource's.
+    pub fn method(&self) -> Method
+        ensures { result ≡ self.now.method }
+    {
+        self.asked.method
+    }
+
+    /// The resource of the target.
+    pub fn resource(&self) -> &Resource
+        ensures { result.now ≡ self.now.resource }
+    {
+        &self.asked.resource
+    }
+
+    /// The value of the first field with this name, in any case, without the white space around it (RFC 9110, sections
+    /// 5.1 and 5.5), or nothing if there is none.
+    pub fn value(&self, name: &[u8]) -> &[u8]
+        ensures { result.now ≡ value_of name.now self.now.fields }
+    {
+        let bytes = self.bytes.as_slice();
+        let fields = self.fields.as_slice();
+        for field in fields {
+            if is_named(bytes, field, name) {
+                return field.value.of(bytes);
+            }
+        }
+        b""
+    }
+
+    /// The values of all fields with this name, in order.
+    pub fn values(&self, alloc: Global, name: &[u8]) -> Result<Vec<&[u8]>, AllocError>
+        ensures { IfOk result (AreValues (values_of name.now self.now.fields)) }
+    {
+        let bytes = self.bytes.as_slice();
+        let fields = self.fields.as_slice();
+        let mut values = Vec::new(alloc);
+        for field in fields {
+            if is_named(bytes, field, name) {
+                values.push(field.value.of(bytes))?;
+            }
+        }
+        Ok(values)
+    }
+
+    /// The request that asks for this, with the fields in its bytes.
+    pub(crate) fn new(asked: Asked, bytes: Vec<u8>, fields: Vec<HeaderSpan>) -> HttpRequest
+        requires { All (IsHeaderWithin (length bytes.items)) fields.items }
+        ensures { result ≡ request_asked asked (fields_at bytes.items fields.items) }
+    {
+        HttpRequest {
+            asked,
+            bytes,
+            fields,
+        }
+    }
 }

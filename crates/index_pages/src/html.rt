@@ -1,9 +1,8 @@
 //! The parts of HTML pages.
-ghost use Rattle.index_pages.specs.Html.{attribute, bottom, file_anchor, name_anchor, project_top, reference, requires_attribute, root_top, yanked_attribute};
+ghost use Rattle.index_pages.specs.Html.{attribute, bottom, escape, escape_byte, file_anchor, name_anchor, project_top, reference, requires_attribute, root_top, yanked_attribute};
 ghost use Rattle.index_pages.specs.Pieces.{Adds};
 
-use crate::bytes::{append, append_escaped};
-use crate::pieces::Pieces;
+use crate::pieces::{Pieces, append};
 use index_digest::Digest256;
 use index_rules::FileRow;
 use index_text::Text;
@@ -112,4 +111,28 @@ fn append_attribute<O: Pieces>(out: &mut O, name: &[u8], value: &[u8]) -> Result
     append_escaped(out, value)?;
     append(out, &[b"\""])?;
     Ok(())
+}
+
+/// Appends a text or an attribute's value, with `&`, `<`, `>` and `"` escaped.
+#[tactic(auto, unfolding(crate::specs::Html::escape))]
+pub fn append_escaped<O: Pieces>(out: &mut O, text: &[u8]) -> Result<(), AllocError>
+    ensures { Adds O.holds out.old out.new result (escape text.now) }
+{
+    for byte in text {
+        append_escaped_byte(out, *byte)?;
+    }
+    Ok(())
+}
+
+/// Appends a byte, or its escape in HTML.
+fn append_escaped_byte<O: Pieces>(out: &mut O, byte: u8) -> Result<(), AllocError>
+    ensures { Adds O.holds out.old out.new result (escape_byte byte) }
+{
+    match byte {
+        b'&' => out.put(b"&amp;"),
+        b'<' => out.put(b"&lt;"),
+        b'>' => out.put(b"&gt;"),
+        b'"' => out.put(b"&quot;"),
+        _ => out.put(&[byte]),
+    }
 }

@@ -1,17 +1,14 @@
 //! The pages that pip reads, in HTML and JSON, and the choice between them.
 #![tactic(auto)]
 
-mod bytes;
-mod cut;
 mod end;
 mod html;
 mod item;
-mod json_file;
+mod json_parts;
 pub mod laws;
 mod page;
 mod pieces;
 mod project;
-mod quoted;
 mod root;
 mod served;
 mod tally;

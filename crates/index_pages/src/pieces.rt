@@ -1,6 +1,7 @@
-//! What a text is appended to, piece by piece.
+//! Texts that are appended to, piece by piece.
 ghost use Rattle.std.specs.Prelude.{◌≡◌};
 ghost use Rattle.index_rules.specs.Maps.{Bytes};
+ghost use Rattle.index_pages.specs.Html.{text_of_pieces};
 ghost use Rattle.index_pages.specs.Pieces.{Adds};
 
 use std::alloc::AllocError;
@@ -21,4 +22,14 @@ impl Pieces for Vec<u8> {
     fn put(&mut self, piece: &[u8]) -> Result<(), AllocError> {
         self.extend_from_slice(piece)
     }
+}
+
+/// Appends the pieces in turn.
+pub fn append<O: Pieces>(out: &mut O, pieces: &[&[u8]]) -> Result<(), AllocError>
+    ensures { Adds O.holds out.old out.new result (text_of_pieces pieces.now) }
+{
+    for piece in pieces {
+        out.put(piece)?;
+    }
+    Ok(())
 }

@@ -9,10 +9,9 @@ ghost use Rattle.index_pages.specs.Pieces.{Adds, AddsRow, to_pieces};
 ghost use Rattle.index_pages.specs.Rest.{IsWholeOf};
 
 use crate::html::{append_bottom, append_file, append_project_top};
-use crate::json_file::{append_comma, append_json_file};
+use crate::json_parts::{append_comma, append_json_file, append_json_text};
 use crate::page::Page;
 use crate::pieces::Pieces;
-use crate::quoted::append_json_text;
 use crate::served::Served;
 use index_names::Release;
 use index_rules::FileRow;

@@ -8,10 +8,9 @@ ghost use Rattle.index_pages.specs.Pieces.{Adds};
 ghost use Rattle.index_pages.specs.Rest.{IsWholeOf};
 
 use crate::html::{append_bottom, append_name, append_root_top};
-use crate::json_file::append_comma;
+use crate::json_parts::{append_comma, append_json_text};
 use crate::page::Page;
 use crate::pieces::Pieces;
-use crate::quoted::append_json_text;
 use crate::served::Served;
 use index_rules::{NameRecord, NameRow};
 use std::alloc::AllocError;

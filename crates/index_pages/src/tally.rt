@@ -5,8 +5,7 @@ ghost use Rattle.std.specs.Str.{byte};
 ghost use Rattle.index_pages.specs.Accept.{claim, cut_at, item_of, names as names_lem, names_all_beside as names_all_beside_lem, specificity as specificity_lem, IsFirstGreatest};
 ghost use Rattle.index_pages.specs.Tally.{after, after_all, better as better_lem, no_tally, quality_on, shown};
 
-use crate::cut::cut;
-use crate::item::Item;
+use crate::item::{Item, cut};
 use crate::served::Served;
 
 /// How specifically an item names a type, and the quality that it gives it.

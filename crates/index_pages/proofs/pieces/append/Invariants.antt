@@ -1,0 +1,8 @@
+use Rattle.std.proofs.Common.{take}
+use Rattle.index_pages.specs.Html.{text_of_pieces}
+use Rattle.index_pages.specs.Pieces.{ExtendsText}
+use Rattle.index_pages.proofs.pieces.append.Given as goal
+
+-- the pieces so far were added
+abbrev pub invariant-loop-piece : goal.invariant-loop-piece
+invariant-loop-piece g l = ExtendsText g.O.Pieces.holds l.fn.out l.out (text_of_pieces (take l.piece-index l.pieces))
