@@ -13,4 +13,5 @@ pub mod Serving
 pub mod ServesFront
 pub mod DeskAnswers
 pub mod Waiting
+pub mod InMemory
 pub mod Printed

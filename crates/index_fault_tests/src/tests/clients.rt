@@ -3,9 +3,9 @@ ghost use Rattle.std.specs.Prelude.{◌≡◌, ℕ, [], ◌∷◌, ◌++◌, map
 ghost use Rattle.std.specs.Slice.Iter.{iter_rest};
 ghost use Rattle.index_desk.specs.Rules.{by_tables};
 ghost use Rattle.index_desk.specs.Takes.{ByTables};
-ghost use Rattle.index_cli.specs.Connections.{AddsReply};
 ghost use Rattle.index_cli.specs.Serving.{IsCount, Serves};
-ghost use Rattle.index_fault_tests.specs.Clients.{AreNamed, IsNew, sent_on};
+ghost use Rattle.index_cli.specs.InMemory.{AddsClosed, IsNew, sent_on};
+ghost use Rattle.index_fault_tests.specs.Clients.{AreNamed};
 
 use super::fakes::{BooksCall, FailingBooks};
 use super::new_books;
@@ -68,7 +68,7 @@ fn client_of(rt: &HostRuntime, message: &'static str) -> Client
 
 impl<R: Abort> Connections for Clients<'_, R> {
     ghost use Rattle.std.specs.Prelude.{◌≡◌, [], map, Some, ⊤};
-    ghost use Rattle.index_fault_tests.specs.Clients.{sent_on};
+    ghost use Rattle.index_cli.specs.InMemory.{sent_on};
 
     type ReadHalf = Input<&'static [u8]>;
 
@@ -102,9 +102,7 @@ impl<R: Abort> Connections for Clients<'_, R> {
         &mut self,
         connection: Connection<Input<&'static [u8]>, Output<Vec<u8>>>,
     ) -> Result<(), Failed>
-        ensures closed { AddsReply (Some (map sent_on self.old.closed.items))
-            (Some (map sent_on self.new.closed.items))
-            (Some connection.entry.sink.writer.items) (sent_on connection.entry).faults }
+        ensures closed { AddsClosed self.old.closed.items self.new.closed.items connection.entry }
         ensures kept { iter_rest self.new.coming ≡ iter_rest self.old.coming }
     {
         self.keep(connection);

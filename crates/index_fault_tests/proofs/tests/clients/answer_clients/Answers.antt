@@ -1,6 +1,6 @@
 use Rattle.std.proofs.Common.{Some, map, refl, ap}
 use Rattle.index_cli.proofs.Served.{serves_are}
-use Rattle.index_fault_tests.specs.Clients.{sent_on}
+use Rattle.index_cli.specs.InMemory.{sent_on}
 use Rattle.index_fault_tests.proofs.ClientLemmas.{are_named}
 use Rattle.index_fault_tests.proofs.tests.clients.answer_clients.Goals as goal
 

@@ -1,6 +1,6 @@
 use Rattle.std.proofs.Common.{ap}
 use Rattle.std.specs.Slice.Iter.{iter_rest}
-use Rattle.index_fault_tests.specs.Clients.{sent_on}
+use Rattle.index_cli.specs.InMemory.{sent_on}
 use Rattle.index_fault_tests.proofs.ClientLemmas.{first_lost}
 use Rattle.index_fault_tests.proofs.tests.clients.ClientsConnections.accept.Goals as goal
 
