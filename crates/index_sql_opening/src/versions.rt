@@ -1,12 +1,11 @@
 //! The version in the table `meta`.
-ghost use Rattle.std.specs.Prelude.{◌≡◌, true, false, is_ok, IsTrue, IfOk};
+ghost use Rattle.std.specs.Prelude.{◌≡◌, true, false, is_ok, IsTrue, IfErr, IfOk};
 ghost use Rattle.sqlite.specs.Held.{state};
 ghost use Rattle.sqlite.specs.State.{HasCleanDisk};
 ghost use Rattle.sqlite_value.specs.Order.{column};
 ghost use Rattle.index_sql_opening.specs.Making.{IsAtRest, RestsAs};
-ghost use Rattle.index_sql_opening.specs.Versions.{VersionQueryAnswers, begun, first_number};
+ghost use Rattle.index_sql_opening.specs.Versions.{FailsToReadVersion, VersionQueryAnswers, begun, first_number};
 ghost use Rattle.index_sql_schema.specs.Looks.{QueriesOnly};
-ghost use Rattle.index_sql_schema.specs.Reasons.{StoreForReason};
 ghost use Rattle.index_sql_schema.specs.Records.{number_in};
 ghost use Rattle.index_sql_schema.specs.Index.{version_in};
 ghost use Rattle.index_sql_writes.specs.Transaction.{IsUncommitted};
@@ -29,8 +28,7 @@ pub fn read_version<S: Alter>(conn: &mut Connection<S>) -> Result<Option<u64>, F
     ensures found { HasCleanDisk (state S.Store conn.new)
         → IfOk result (λ version. version ≡ version_in (state S.Store conn.old).now.trees) }
     ensures looks { QueriesOnly S.Store conn.old conn.new (is_ok result) }
-    ensures reason { HasCleanDisk (state S.Store conn.new)
-        → StoreForReason S.Store conn.old conn.new result }
+    ensures reason { IfErr result (FailsToReadVersion S.Store conn.old conn.new) }
 {
     match conn.query_all(SELECT_VERSION, &[]) {
         Ok(rows) => Ok(first_number(rows.as_slice())),

@@ -1,6 +1,6 @@
 -- What is done after a look at the version.
 use Rattle.std.proofs.lemmas.Bool.{cases_Bool}
-use Rattle.std.proofs.Common.{◌≡◌, ◌≢◌, inl, inr, ◌∙◌, ap, refl, subst, sym, true, true≢false, IsSome, IsTrue, ℕ, Option, option_map, Some, Result, Ok, Err, IfErr}
+use Rattle.std.proofs.Common.{◌≡◌, ◌≢◌, inl, inr, ◌∙◌, ap, refl, subst, sym, Bool, true, false, true≢false, if◌then◌else◌, ◌==◌, ◌&&◌, codes, IsSome, IsTrue, ℕ, Option, option_map, None, Some, Result, Ok, Err, IfErr}
 use Rattle.sqlite_trees.specs.declared.store.Store.{Ghosts}
 use Rattle.sqlite.specs.Effect.{Database}
 use Rattle.sqlite.specs.Held.{Held, state}
@@ -14,14 +14,15 @@ use Rattle.index_rules.specs.Tables.{Tables}
 use Rattle.index_rules.specs.declared.open.OpenFault.{OpenFault}
 use Rattle.index_rules.specs.declared.open.OpenFault.TheVariants.{BadFirstUser, NotEmpty, NotAnIndex, OtherVersion, OutOfMemory, Store}
 use Rattle.sqlite_schema.specs.Names.{same_name}
+use Rattle.sqlite_schema.specs.declared.schema.Schema.{Schema}
 use Rattle.index_sql_opening.specs.Migrated.{asks_of_migration}
-use Rattle.index_sql_opening.specs.Names.{has_meta}
-use Rattle.index_sql_opening.specs.Versions.{begun}
+use Rattle.index_sql_opening.specs.Names.{has_all_of, has_meta, has_table}
+use Rattle.index_sql_opening.specs.Versions.{FailsToReadVersion, VersionQueryFailsInside, begun}
 use Rattle.index_rules.specs.declared.answer.Fault.{Fault}
 use Rattle.index_rules.specs.declared.answer.Fault.TheVariants as fault
 use Rattle.index_sql_schema.proofs.SelectVersion.{selects}
 use Rattle.index_sql_schema.proofs.VersionLemmas.{raised_tells}
-use Rattle.index_sql_schema.specs.FirstVersion.{IsAnyVersion, IsFirstVersion}
+use Rattle.index_sql_schema.specs.FirstVersion.{IsAnyVersion, IsFirstVersion, first_version_schema}
 use Rattle.index_sql_schema.specs.Index.{meta_in, raised, version_among, version_in}
 use Rattle.index_sql_reads.specs.ConnectionTables.{tables_of}
 use Rattle.index_sql_writes.proofs.GoingLemmas.{fault_since}
@@ -29,7 +30,7 @@ use Rattle.index_tables.specs.declared.opening.Unopened.{Unopened}
 use Rattle.index_tables.specs.BooksState.{IsWorking, BooksState}
 use Rattle.index_tables.specs.declared.adopt.Kind.{Kind}
 use Rattle.index_tables.specs.declared.adopt.Kind.TheVariants.{FirstVersion}
-use Rattle.index_tables.specs.Adopted.{Adopts, AreHandedOn, DatabaseFailsToOpen, DatabaseHasVersion, HasVersionOne, IsFound, IsOurs, IsRaised, IsReason, IsReasonOfKind, StandAsFound, refusal_in, version_of}
+use Rattle.index_tables.specs.Adopted.{Adopts, AreHandedOn, DatabaseFailsToOpen, DatabaseHasVersion, foreign_tables_fault, refusal_by, HasVersionOne, IsFound, IsOurs, IsRaised, IsReason, IsReasonOfKind, StandAsFound, refusal_in, version_of}
 use Rattle.index_tables.specs.Opened.{AreOpened, CrashLeavesOrMakes, IsFault, IsUnopened, StoreForRefusal, open_fault_by}
 
 -- one set of tables is found in a database
@@ -61,6 +62,24 @@ any_version : (db : Database) → IsOurs db → IsAnyVersion db
 any_version db (inl (h, told)) = inl h
 any_version db (inr (h, told)) = inr h
 
+-- no version leaves a want of memory to blame
+tables_alone : (has_all : Bool) → foreign_tables_fault has_all ≡ OutOfMemory → ⊥
+tables_alone true is = absurd (let it = is in cc)
+tables_alone false is = absurd (let it = is in cc)
+
+version_alone : (one two first both : Bool)
+    → (if one then foreign_tables_fault first else if two then foreign_tables_fault both else OtherVersion) ≡ OutOfMemory → ⊥
+version_alone true two first both is = tables_alone first is
+version_alone false true first both is = tables_alone both is
+version_alone false false first both is = absurd (let it = is in cc)
+
+memory_alone : (version : Option ℕ) (first bans : Bool) → refusal_by version first bans ≡ OutOfMemory → ⊥
+memory_alone None first bans is = absurd (let it = is in cc)
+memory_alone (Some version) first bans is = version_alone (version == 1) (version == 2) first (first && bans) is
+
+no_memory : (schema : Schema) (version : Option ℕ) → OutOfMemory ≡ refusal_in schema version → ⊥
+no_memory schema version is = memory_alone version (has_all_of schema first_version_schema.tables) (has_table schema (codes "bans")) (sym is)
+
 module _ {S : Type 0} (g : Ghosts S) where
   told_is : (held : Held S) (version : Option ℕ) → IsTrue (state g held).is_open → IsOurs (state g held).now → DatabaseHasVersion g held version → version ≡ version_in (state g held).now.trees
   told_is held version o ours (inl (_, is)) = is
@@ -84,21 +103,21 @@ module _ {S : Type 0} (g : Ghosts S) where
     -- what the version that is told says is a reason
     pub reason_told : (version : Option ℕ) (why : OpenFault) → DatabaseHasVersion g held version → why ≡ refusal_in (state g held).now.schema version → IsReason g held new why
     reason_told version NotAnIndex tells is = inr (version, tells, is)
-    reason_told version OutOfMemory tells is = meta
+    reason_told version OutOfMemory tells is = absurd (no_memory (state g held).now.schema version is)
     reason_told version Store tells is = (meta, inl (version, tells, is))
     reason_told version BadFirstUser tells is = (version, tells, is)
     reason_told version NotEmpty tells is = (version, tells, is)
     reason_told version OtherVersion tells is = (version, tells, is)
 
     -- and so is a fault
-    pub reason_failed : (f : Fault) (why : OpenFault) → why ≡ open_fault_by f → (f ≡ fault.Store → DatabaseFailsToOpen g held new) → IsReason g held new why
-    reason_failed fault.OutOfMemory why is fails = subst (IsReason g held new) (sym is) meta
-    reason_failed fault.Store why is fails = subst (IsReason g held new) (sym is) (meta, inr (fails refl))
+    pub reason_failed : (f : Fault) (why : OpenFault) → why ≡ open_fault_by f → VersionQueryFailsInside g (begun held) f → IsReason g held new why
+    reason_failed fault.OutOfMemory why is fails = subst (IsReason g held new) (sym is) (meta, inr (inl fails))
+    reason_failed fault.Store why is fails = subst (IsReason g held new) (sym is) (meta, inr (inr (inl fails)))
 
     -- what is a reason for one of a kind is one
     pub reason_of_kind : (kind : Kind) (why : OpenFault) → IsReasonOfKind g kind held new why → IsReason g held new why
     reason_of_kind kind NotAnIndex (version, tells, other, is) = inr (version, tells, is)
-    reason_of_kind kind OutOfMemory memory = meta
+    reason_of_kind kind OutOfMemory memory = (meta, inr (inr memory))
     reason_of_kind kind Store (inl (version, tells, other, is)) = (meta, inl (version, tells, is))
     reason_of_kind kind Store (inr fails) = (meta, inr fails)
     reason_of_kind kind BadFirstUser (version, tells, other, is) = (version, tells, is)
@@ -110,16 +129,16 @@ module _ {S : Type 0} (g : Ghosts S) where
     -- another version than its own is a reason
     pub other_told : (version : Option ℕ) (why : OpenFault) → DatabaseHasVersion g held version → version ≢ Some (version_of kind) → why ≡ refusal_in (state g held).now.schema version → IsReasonOfKind g kind held new why
     other_told version NotAnIndex tells other is = (version, tells, other, is)
-    other_told version OutOfMemory tells other is = tt
+    other_told version OutOfMemory tells other is = absurd (no_memory (state g held).now.schema version is)
     other_told version Store tells other is = inl (version, tells, other, is)
     other_told version BadFirstUser tells other is = (version, tells, other, is)
     other_told version NotEmpty tells other is = (version, tells, other, is)
     other_told version OtherVersion tells other is = (version, tells, other, is)
 
     -- and so is a fault
-    pub kind_failed : (f : Fault) (why : OpenFault) → why ≡ open_fault_by f → (f ≡ fault.Store → DatabaseFailsToOpen g held new) → IsReasonOfKind g kind held new why
-    kind_failed fault.OutOfMemory why is fails = subst (IsReasonOfKind g kind held new) (sym is) tt
-    kind_failed fault.Store why is fails = subst (IsReasonOfKind g kind held new) (sym is) (inr (fails refl))
+    pub kind_failed : (f : Fault) (why : OpenFault) → why ≡ open_fault_by f → FailsToReadVersion g held new f → HasCleanDisk (state g new) → IsReasonOfKind g kind held new why
+    kind_failed fault.OutOfMemory why is fails clean = subst (IsReasonOfKind g kind held new) (sym is) (inl (fails.query clean))
+    kind_failed fault.Store why is fails clean = subst (IsReasonOfKind g kind held new) (sym is) (inr (inl (fails.reason clean refl)))
 
   module _ (held new : Held S) where
     -- of version 1 it may be that it is not raised, after a look at its version
@@ -139,7 +158,7 @@ module _ {S : Type 0} (g : Ghosts S) where
       ]
 
       pub reason_raised : (why : OpenFault) → (IsTrue (state g held).is_open → IsFirstVersion (state g held).now) → version_in (state g held).now.trees ≡ Some 1 → IsFault why → StoreForRefusal g asks_of_migration mid new why → IsReasonOfKind g FirstVersion held new why
-      reason_raised why first told (inl memory) reason = subst (IsReasonOfKind g FirstVersion held new) (sym memory) tt
+      reason_raised why first told (inl memory) reason = subst (IsReasonOfKind g FirstVersion held new) (sym memory) (inr (told, first))
       reason_raised why first told (inr store) reason = subst (IsReasonOfKind g FirstVersion held new) (sym store) (inr (elim (reason store) [ inl it ↦ inl (since it) | inr refuses ↦ refused first told refuses ]))
 
   -- what is opened, or not, after a look

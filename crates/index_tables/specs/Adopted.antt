@@ -1,6 +1,6 @@
 -- Which index an existing database is opened as.
 use Rattle.std.specs.Prelude.{Bool, IfErr, IfOk, IsTrue, List, None, Option, Result, Some, codes}
-use Rattle.std.specs.Prelude.{false, if◌then◌else◌, ℕ, ⊤, ◌&&◌, ◌==◌, ◌≡◌, ◌≢◌, ◌⊎◌}
+use Rattle.std.specs.Prelude.{false, if◌then◌else◌, ℕ, ◌&&◌, ◌==◌, ◌≡◌, ◌≢◌, ◌⊎◌}
 use Rattle.sqlite_value.specs.Order.{Row}
 use Rattle.sqlite_trees.specs.Tree.{Trees}
 use Rattle.sqlite_trees.specs.declared.store.Store.{Ghosts}
@@ -11,8 +11,10 @@ use Rattle.sqlite.specs.State.{State}
 use Rattle.index_sql_opening.specs.Migrated.{asks_of_migration}
 use Rattle.index_sql_opening.specs.Names.{has_all_of, has_meta, has_table}
 use Rattle.index_sql_opening.specs.Versions.{VersionQueryFails, VersionQueryShows, begun}
+use Rattle.index_sql_opening.specs.Versions.{VersionQueryFailsInside}
 use Rattle.index_sql_writes.specs.StepAsks.{AreRefused}
 use Rattle.index_sql_schema.specs.Reasons.{HasReason}
+use Rattle.index_rules.specs.declared.answer.Fault.TheVariants as fault
 use Rattle.index_rules.specs.declared.open.OpenFault.{OpenFault}
 use Rattle.index_rules.specs.declared.open.OpenFault.TheVariants.{NotAnIndex, OtherVersion}
 use Rattle.index_rules.specs.declared.open.OpenFault.TheVariants.{OutOfMemory, Store}
@@ -128,7 +130,24 @@ IsNotRaised db = HasVersionOne db × AreRefused asks_of_migration db
 abbrev pub DatabaseFailsToOpen : {S : Type 0} → Ghosts S → Held S → Held S → Type 0
 DatabaseFailsToOpen g old new =
     HasReason (state g old) (state g new)
-    ⊎ (VersionQueryFails g (begun old) ⊎ IsNotRaised (state g old).now)
+    ⊎ (VersionQueryFailsInside g (begun old) fault.Store ⊎ IsNotRaised (state g old).now)
+
+-- a database says that it is of version 1, and is, as long as the connection is open
+abbrev pub SaysVersionOne : {S : Type 0} → Ghosts S → Held S → Type 0
+SaysVersionOne g held =
+    (version_in (state g held).now.trees ≡ Some 1)
+    × (IsTrue (state g held).is_open → IsFirstVersion (state g held).now)
+
+-- memory runs out for the opening of a database of a kind: the query of the version says so, or an
+-- index was to be made of version 1
+abbrev pub KindLacksMemory : {S : Type 0} → Ghosts S → Held S → Held S → Type 0
+KindLacksMemory g old new = VersionQueryFails g old new fault.OutOfMemory ⊎ SaysVersionOne g old
+
+-- memory runs out for the opening of a database: before a call of it, or in one
+abbrev pub DatabaseLacksMemory : {S : Type 0} → Ghosts S → Held S → Held S → Type 0
+DatabaseLacksMemory g old new =
+    (new ≡ old)
+    ⊎ (VersionQueryFailsInside g (begun old) fault.OutOfMemory ⊎ KindLacksMemory g old new)
 
 -- the version in meta of an index of this kind
 abbrev pub version_of : Kind → ℕ
@@ -144,7 +163,7 @@ IsRefusedByOther g kind held why =
 -- Why a database whose schema is of this kind is not opened; one with the version of its kind is
 -- opened, unless that fails.
 abbrev pub IsReasonOfKind : {S : Type 0} → Ghosts S → Kind → Held S → Held S → OpenFault → Type 0
-IsReasonOfKind g kind old new OutOfMemory = ⊤
+IsReasonOfKind g kind old new OutOfMemory = KindLacksMemory g old new
 IsReasonOfKind g kind old new Store =
     IsRefusedByOther g kind old Store ⊎ DatabaseFailsToOpen g old new
 IsReasonOfKind g kind old new why = IsRefusedByOther g kind old why
@@ -154,7 +173,8 @@ IsReasonOfKind g kind old new why = IsRefusedByOther g kind old why
 abbrev pub IsReason : {S : Type 0} → Ghosts S → Held S → Held S → OpenFault → Type 0
 IsReason g old new NotAnIndex =
     (has_meta (state g old).now.schema ≡ false) ⊎ IsRefusedByVersion g old NotAnIndex
-IsReason g old new OutOfMemory = IsTrue (has_meta (state g old).now.schema)
+IsReason g old new OutOfMemory =
+    IsTrue (has_meta (state g old).now.schema) × DatabaseLacksMemory g old new
 IsReason g old new Store =
     IsTrue (has_meta (state g old).now.schema)
     × (IsRefusedByVersion g old Store ⊎ DatabaseFailsToOpen g old new)

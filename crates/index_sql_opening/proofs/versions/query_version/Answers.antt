@@ -14,12 +14,14 @@ returns-in-Err-clause-uncommitted g c = record {
 pub returns-in-Err-clause-version : goal.returns-in-Err-clause-version
 returns-in-Err-clause-version g c = record {
   told = λ _. tt;
-  fails = λ clean is. record {
-    after = c.query_all.new.self.conn.now;
-    error = c.in-Err.error;
-    fails = fails_inside _ _ select_version_text [] _ c.requires.inside (c.in-Err.ensures.err clean);
-    fault = sym c.fault_of.ensures ∙ is;
-  };
+  fails = λ clean. (
+    c.query_all.new.self.conn.now,
+    record {
+      error = c.in-Err.error;
+      fails = fails_inside _ _ select_version_text [] _ c.requires.inside (c.in-Err.ensures.err clean);
+      told = sym c.fault_of.ensures;
+    },
+  );
 }
 
 pub returns-in-Ok-clause-uncommitted : goal.returns-in-Ok-clause-uncommitted

@@ -12,7 +12,14 @@ pub returns-in-Err-clause-looks : goal.returns-in-Err-clause-looks
 returns-in-Err-clause-looks g c = looks_refused g.S.Store c.args.conn.now c.query_all.new.self c.requires.is (c.query_all.ensures.mode c.requires.rest.outside) c.query_all.ensures.survives _ _ (search rules) c.requires.rest c.in-Err.ensures.err
 
 pub returns-in-Err-clause-reason : goal.returns-in-Err-clause-reason
-returns-in-Err-clause-reason g c clean is = reasoned (state g.S.Store c.args.conn.now) (state g.S.Store c.query_all.new.self) _ c.requires.is (c.in-Err.ensures.err clean) (sym c.fault_of.ensures ∙ is)
+returns-in-Err-clause-reason g c = record {
+  query = λ clean. record {
+    error = c.in-Err.error;
+    fails = c.in-Err.ensures.err clean;
+    told = sym c.fault_of.ensures;
+  };
+  reason = λ clean is. reasoned (state g.S.Store c.args.conn.now) (state g.S.Store c.query_all.new.self) _ c.requires.is (c.in-Err.ensures.err clean) (sym c.fault_of.ensures ∙ is);
+}
 
 pub returns-in-Ok-clause-looks : goal.returns-in-Ok-clause-looks
 returns-in-Ok-clause-looks g c = looks_shown g.S.Store c.args.conn.now c.query_all.new.self c.requires.is (c.query_all.ensures.mode c.requires.rest.outside) c.query_all.ensures.survives c.in-Ok.rows.items c.in-Ok.ensures.ok _

@@ -1,4 +1,4 @@
-use Rattle.std.proofs.Common.{rules, inl, inr}
+use Rattle.std.proofs.Common.{rules, inr}
 use Rattle.index_tables.proofs.AdoptLemmas.{reason_failed, reason_told}
 use Rattle.index_tables.specs.Adopted.{IsRaised}
 use Rattle.index_tables.proofs.OpenedLemmas.{looked_refused}
@@ -19,5 +19,5 @@ returns-in-Err g c =
     record {
       why = search rules;
       refused = looked_refused g.S.Store IsRaised c.args.conn new c.told_version.ensures.looks c.requires.rest c.open_fault_of.result
-          (λ clean. reason_failed g.S.Store c.args.conn new c.requires.is c.in-Err.fault c.open_fault_of.result c.open_fault_of.ensures.is (λ is. inr (inl (c.in-Err.ensures.version.fails clean is))));
+          (λ clean. reason_failed g.S.Store c.args.conn new c.requires.is c.in-Err.fault c.open_fault_of.result c.open_fault_of.ensures.is (c.in-Err.ensures.version.fails clean));
     }

@@ -1,4 +1,4 @@
-use Rattle.std.proofs.Common.{rules, inl, IfOk, IfErr, subst}
+use Rattle.std.proofs.Common.{rules, inl, refl, IfOk, IfErr, subst}
 use Rattle.std.proofs.lemmas.Result.{IfErr-weaker, IfOk-weaker}
 use Rattle.sqlite.specs.Held.{state}
 use Rattle.index_sql_schema.proofs.BearerLemmas.{one_bearer}
@@ -52,4 +52,4 @@ returns-in-Ok-None-clause-again g c clean o ours =
 pub returns-in-Err-clause-refused : goal.returns-in-Err-clause-refused
 returns-in-Err-clause-refused g c =
     subst (λ held. IsUnopened g.S.Store IsRaised (IsReason g.S.Store) held (record { why = OutOfMemory; conn = c.expose_invariants-conn.result })) c.expose_invariants-conn.ensures.same
-    (refused_at_once g.S.Store c.expose_invariants-conn.result OutOfMemory (search rules) (search rules))
+    (refused_at_once g.S.Store c.expose_invariants-conn.result OutOfMemory (search rules) (λ _. (search rules, inl refl)))
