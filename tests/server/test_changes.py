@@ -24,13 +24,16 @@ def logged(front: Front, number: int) -> list:
 
 @pytest.fixture
 def refused(front):
-    """The status of the last of five changes, with a read among them."""
-    accepted(front.request(do="add_user", user="zoe", office=False, token_sha256=sha256(SECRET.encode())))
-    accepted(front.claim("Logged", SECRET))
+    """The status of the last of five changes, with a read among them. Each waits for the line of the one before: nginx
+    has two workers, and each writes its own lines."""
     headers = {"X_Index_Token": SECRET, "X_Index_SHA256": sha256(b"new")}
-    accepted(front.ask("PUT", FILE, b"new", **headers))
-    assert front.ask("GET", FILE)[0] == 200
-    accepted(front.ask("DELETE", f"{FILE}?why=old", **headers))
+    for number, ask in enumerate((
+            lambda: front.request(do="add_user", user="zoe", office=False, token_sha256=sha256(SECRET.encode())),
+            lambda: front.claim("Logged", SECRET), lambda: front.ask("PUT", FILE, b"new", **headers),
+            lambda: front.ask("DELETE", f"{FILE}?why=old", **headers)), 1):
+        accepted(ask())
+        assert front.ask("GET", "/simple/")[0] == 200
+        logged(front, number)
     return front.claim('Quo"ted', OTHERS)[0]
 
 
