@@ -131,10 +131,11 @@ class Attempts:
         return ""
 
     def up_to(self, line: Line, name: str, case: Case) -> List[Line]:
-        """The attempts of this case up to this line. A case that was opened later was opened again after a restore."""
+        """The attempts of this case up to this line that were accepted for sure. A case that was opened later was
+        opened again after a restore."""
         begin = case.opened if case.opened <= line.began else self.since
         return [it for it in self.lines if is_attempt(it, name) and it.number < line.number and it.began >= begin
-                and it.again is None] + [line]
+                and it.again is None and not it.unanswered] + [line]
 
 
 def why_left(line: Line, url: str, caller: str, is_office: bool) -> str:

@@ -344,3 +344,10 @@ def test_a_replay_that_is_interrupted_says_at_which_line(replayed, capsys, end):
     finally:
         signal.signal(number, before)
     assert capsys.readouterr().err.endswith("Go on by --from 2, or the line after it.\n")
+
+
+def test_an_attempt_without_an_answer_is_not_taken_for_one_that_was_made():
+    """The case has the first and the third, so the third is left: asked for once more it would count twice."""
+    desk, lines = FakeDesk(), [attempt(1), attempt(2, unanswered=502), attempt(3)]
+    desk.case = of(2, 2, "pages")
+    assert replays.Attempts(desk, lines, 1).why_left(lines[2]).startswith("the case of frob has 2 attempts")
