@@ -143,7 +143,8 @@ SaysVersionOne g held =
 abbrev pub KindLacksMemory : {S : Type 0} → Ghosts S → Held S → Held S → Type 0
 KindLacksMemory g old new = VersionQueryFails g old new fault.OutOfMemory ⊎ SaysVersionOne g old
 
--- memory runs out for the opening of a database: before a call of it, or in one
+-- memory runs out for the opening of a database: with the connection as it was, or in the query of
+-- the version, or on the way from version 1
 abbrev pub DatabaseLacksMemory : {S : Type 0} → Ghosts S → Held S → Held S → Type 0
 DatabaseLacksMemory g old new =
     (new ≡ old)
