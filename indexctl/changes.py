@@ -5,7 +5,8 @@ import argparse
 import json
 from contextlib import AbstractContextManager
 from dataclasses import replace
-from typing import Callable, Dict, Mapping, Optional, Tuple
+from types import MappingProxyType
+from typing import Callable, Mapping, Optional, Tuple
 
 from indexctl.ends import REFUSED, WRONG, Stop
 from indexctl.names import project_of, sha256
@@ -18,7 +19,7 @@ from indexctl.units import moment_now
 from package_index.names import file_path, normal
 
 Row = Mapping[str, object]
-NOTHING: Dict[str, str] = {}
+NOTHING_MORE: Row = MappingProxyType({})
 # what the index never answers by Already: the same again would be another attempt, another case, or a refusal
 NEVER_ALREADY = ("open_case", "record_attempt", "transfer", "close_case", "answer_case", "relinquish")
 
@@ -53,7 +54,7 @@ class Desk:
         return self.record.room(line)
 
     def send(self, what: str, row: Row, request: Request, token: Optional[str] = None, is_kept: bool = True,
-             more: Row = NOTHING) -> Tuple[int, str]:
+             more: Row = NOTHING_MORE) -> Tuple[int, str]:
         """The status and the name of the answer to a change. An accepted one is in the record then."""
         token, name = token or self.token(), name_in(row)
         # of several indexes behind one address, nginx chooses by the last of these headers
@@ -79,7 +80,7 @@ class Desk:
         raise foreign(what, reply)
 
     def post(self, what: str, row: Row, token: Optional[str] = None, is_kept: bool = True,
-             more: Row = NOTHING) -> Tuple[int, str]:
+             more: Row = NOTHING_MORE) -> Tuple[int, str]:
         body = json.dumps(row).encode()
         request = Request("POST", "/requests", (), lambda: [body], len(body))
         return self.send(what, row, request, token, is_kept, more)
@@ -96,15 +97,15 @@ class Desk:
         note(sentence, "red")
         return False
 
-    def change(self, what: str, token: Optional[str] = None, more: Row = NOTHING, **row: object) -> bool:
+    def change(self, what: str, token: Optional[str] = None, more: Row = NOTHING_MORE, **row: object) -> bool:
         """Asks for a change by JSON, and says what became of it. Gives whether it is so now."""
         return self.change_by(what, row, token, more)
 
-    def change_by(self, what: str, row: Row, token: Optional[str] = None, more: Row = NOTHING) -> bool:
+    def change_by(self, what: str, row: Row, token: Optional[str] = None, more: Row = NOTHING_MORE) -> bool:
         """The same, for a request that is a row already."""
         return self.tell(what, row, *self.post(what, row, token, more=more))
 
-    def delete(self, file: str, more: Row = NOTHING) -> bool:
+    def delete(self, file: str, more: Row = NOTHING_MORE) -> bool:
         row, what = {"do": "delete", "file": file}, f"delete {file}"
         request = Request("DELETE", file_path(project_of(file), file))
         return self.tell(what, row, *self.send(what, row, request, more=more))
