@@ -154,68 +154,76 @@ def left_of(cache: str, files: list[str]) -> str:
     return f"back in the cache: {back}" if back else ""
 
 
-def follow_job(program: str, folder: str) -> Job:
+class Follow:
     """The follower takes out what nginx's log of changes names. That stands on another disk, and beside the cache the
     place up to which it was read, and the list for other nginx. A file is away, and in the list, as soon as the place
     is behind its line."""
-    new, log = make_index(program, f"{folder}/new.db"), f"{folder}/changes.log"
-    lines = [json.dumps({"status": 200, "method": "DELETE", "path": f"/files/frob/{it}"}) + "\n" for it in FILES]
 
-    def prepare(path: str) -> None:
-        copy_index(new, path)
+    def __init__(self, program: str, folder: str) -> None:
+        self.new, self.log = make_index(program, f"{folder}/new.db"), f"{folder}/changes.log"
+        self.lines = [json.dumps({"status": 200, "method": "DELETE", "path": f"/files/frob/{it}"}) + "\n"
+                      for it in FILES]
+
+    def prepare(self, path: str) -> None:
+        copy_index(self.new, path)
         make_cache(f"{os.path.dirname(path)}/cache", [("spam", "spam-1.tar.gz"), *(("frob", it) for it in FILES)])
 
-    def words(path: str) -> list[str]:
+    def start(self, path: str) -> subprocess.Popen[bytes]:
         at = os.path.dirname(path)
-        return [sys.executable, "-B", f"{BIN}/index-uncache-follow", "--again", "0", "--log", log, "--cache",
-                f"{at}/cache", "--place", f"{at}/place"]
+        return subprocess.Popen([sys.executable, "-B", f"{BIN}/index-uncache-follow", "--again", "0", "--log", self.log,
+                                 "--cache", f"{at}/cache", "--place", f"{at}/place"])
 
-    def drive(path: str, mark: Mark) -> None:
-        with open(log, "w", encoding="ascii") as written, subprocess.Popen(words(path)) as follower:
-            for text in lines:
+    def drive(self, path: str, mark: Mark) -> None:
+        with open(self.log, "w", encoding="ascii") as written, self.start(path) as follower:
+            for text in self.lines:
                 written.write(text)
                 written.flush()
-                assert wait_for(lambda: place(path) == written.tell(), PATIENCE)
+                assert wait_for(lambda: place_of(path) == written.tell(), PATIENCE)
                 sync_beside(path)
             follower.terminate()
 
-    def place(path: str) -> int:
-        """How many bytes of the log were read up to the place that is kept, or 0."""
-        try:
-            with open(f"{os.path.dirname(path)}/place", encoding="ascii") as kept:
-                return int(kept.read().split()[1])
-        except (FileNotFoundError, IndexError):
-            return 0
-
-    def beside(path: str, _: int) -> str:
-        read, done = place(path), 0
-        while read >= sum(map(len, lines[:done + 1])) and done < len(lines):
+    def beside(self, path: str, _: int) -> str:
+        read, done = place_of(path), 0
+        while read >= sum(map(len, self.lines[:done + 1])) and done < len(self.lines):
             done += 1
-        return left_of(f"{os.path.dirname(path)}/cache", FILES[:done]) or unlisted(path, done)
+        return left_of(f"{os.path.dirname(path)}/cache", FILES[:done]) or self.unlisted(path, done)
 
-    def unlisted(path: str, done: int) -> str:
+    def unlisted(self, path: str, done: int) -> str:
         """Which of the first lines the list does not have."""
         try:
             with open(f"{os.path.dirname(path)}/removed", errors="replace", encoding="utf-8") as kept:
                 listed = kept.readlines()
         except FileNotFoundError:
             listed = []
-        missing = [it for it in lines[:done] if it not in listed]
+        missing = [it for it in self.lines[:done] if it not in listed]
         return f"not in the list: {missing}" if missing else ""
 
-    def again(path: str) -> str:
+    def again(self, path: str) -> str:
         """All that the log names goes, also if the place was lost."""
-        with subprocess.Popen(words(path)) as follower:
-            is_done = wait_for(lambda: not left_to_do(path), PATIENCE)
+        with self.start(path) as follower:
+            is_done = wait_for(lambda: not self.left_to_do(path), PATIENCE)
             follower.terminate()
-        return "" if is_done else left_to_do(path)
+        return "" if is_done else self.left_to_do(path)
 
-    def left_to_do(path: str) -> str:
+    def left_to_do(self, path: str) -> str:
         """What is not done of all that the log names."""
         left = keys(f"{os.path.dirname(path)}/cache")
-        return unlisted(path, len(lines)) if left == [OTHER] else f"left in the cache: {left}"
-    return Job("follow_whose_place_may_be_lost", prepare, drive, [rows_of(new)] * 2, again, meanwhile=syncs_beside,
-               beside=beside)
+        return self.unlisted(path, len(self.lines)) if left == [OTHER] else f"left in the cache: {left}"
+
+
+def place_of(path: str) -> int:
+    """How many bytes of the log were read up to the place that is kept, or 0."""
+    try:
+        with open(f"{os.path.dirname(path)}/place", encoding="ascii") as kept:
+            return int(kept.read().split()[1])
+    except (FileNotFoundError, IndexError):
+        return 0
+
+
+def follow_job(program: str, folder: str) -> Job:
+    follow = Follow(program, folder)
+    return Job("follow_whose_place_may_be_lost", follow.prepare, follow.drive, [rows_of(follow.new)] * 2, follow.again,
+               meanwhile=syncs_beside, beside=follow.beside)
 
 
 class Asked:
