@@ -108,7 +108,7 @@ def test_what_came_while_it_was_killed_is_taken_out_too_also_over_a_rotation(cac
         ban(cached, FILES[0])
         wait_until_gone(cached, FILES[0])
         end = os.stat(log).st_ino, os.path.getsize(log)
-        assert wait_for(lambda: followed.place_in(f"{cached.folder}/place") == end)
+        assert wait_for(lambda: (followed.place_in(f"{cached.folder}/place") or ())[:2] == end)
         runs.process.kill()
         runs.process.wait()
     ban(cached, FILES[1])
@@ -160,10 +160,10 @@ def test_the_second_time_is_for_a_reply_that_was_under_way(monkeypatch, tmp_path
     line = json.dumps({"status": 200, "method": "DELETE", "path": "/files/a/a-1.zip", "body": ""})
 
     def lines(*_):
-        yield line, followed.Place(1, 9)
+        yield line, followed.Place(1, 9, "0")
         for moment in (104.9, 105.0, 106.0):
             now[0] = moment
-            yield "", followed.Place(1, 9)
+            yield "", followed.Place(1, 9, "0")
 
     monkeypatch.setattr(FOLLOW, "lines_from", lines)
     monkeypatch.setattr(FOLLOW, "take_out", lambda words, cache: taken.append((now[0], words)))
@@ -171,13 +171,13 @@ def test_the_second_time_is_for_a_reply_that_was_under_way(monkeypatch, tmp_path
     kept = []
     monkeypatch.setattr(FOLLOW, "keep_place", lambda path, place: kept.append((now[0], place)))
     FOLLOW.follow(FOLLOW.argparse.Namespace(place=f"{tmp_path}/place", log="x", cache="y", again=5, front=None))
-    assert taken == [(100.0, ["a", "a-1.zip"]), (105.0, ["a", "a-1.zip"])] and kept == [(105.0, (1, 9))]
+    assert taken == [(100.0, ["a", "a-1.zip"]), (105.0, ["a", "a-1.zip"])] and kept == [(105.0, (1, 9, "0"))]
     assert (tmp_path / "removed").read_text() == f"{line}\n"
 
 
 def test_a_full_disk_keeps_nothing_in_the_cache_and_is_told_before_the_place_is_kept(monkeypatch, tmp_path):
     lines = [json.dumps({"status": 200, "method": "DELETE", "path": f"/files/a/a-{it}.zip"}) for it in "123"]
-    read = [(line, followed.Place(1, 9)) for line in [*lines, "", ""]]
+    read = [(line, followed.Place(1, 9, "0")) for line in [*lines, "", ""]]
     monkeypatch.setattr(FOLLOW, "lines_from", lambda *_: iter(read))
     taken = calls(monkeypatch, FOLLOW, "take_out")
     kept = calls(monkeypatch, FOLLOW, "keep_place")
@@ -250,11 +250,12 @@ def test_a_place_that_is_gone_or_spoilt_has_all_logs_read(tmp_path):
     os.utime(oldest, (1, 1))
     os.utime(tmp_path / "log.1", (2, 2))
     inode = os.stat(oldest).st_ino
-    for place, lines in ((None, "12x3"), (followed.Place(7, 0), "12x3"), (followed.Place(inode, 9), "12x3"),
-                         (followed.Place(inode, 2), "2x3"), (followed.Place(os.stat(log).st_ino, 2), "")):
+    end = followed.Place(os.stat(log).st_ino, 2, sha256(b"3\n"))
+    for place, lines in ((None, "12x3"), (end._replace(read=0), "12x3"), (followed.Place(inode, 9, "0"), "12x3"),
+                         (followed.Place(inode, 2, sha256(b"1\n")), "2x3"), (end, "")):
         found, seen = followed.lines_from(str(log), place), ""
         for line, at in found:
-            if not line and at == (os.stat(log).st_ino, 2):
+            if not line and at == end:
                 break
             seen += line.strip()
         found.close()

@@ -1,10 +1,11 @@
 """A log that is followed: how often it is looked at, and what was rotated away."""
 import contextlib
+import gzip
 import os
 
 import pytest
 from support.library import followed
-from support.unit import with_time
+from support.unit import raises, with_time
 
 
 def test_a_log_that_has_nothing_new_is_looked_at_after_a_pause(tmp_path, monkeypatch):
@@ -33,14 +34,62 @@ def test_only_logs_that_were_rotated_away_since_are_read(tmp_path, known, lines)
     assert [it.strip() for it in followed.rotated_since(str(tmp_path / "x.log"), inode)] == lines
 
 
-@pytest.mark.parametrize("at, read, left", [(0, 2, b"b\n"), (1, 2, b"d\n"), (1, 4, b""), (1, 5, None), (None, 0, None)])
+@pytest.mark.parametrize("at, read, left", [(0, 2, b"b\n"), (1, 2, b"d\n"), (1, 4, b""), (1, 5, None), (1, 0, None)])
 def test_a_log_is_read_from_its_place_on_though_it_was_rotated_away(tmp_path, at, read, left):
-    """One that is shorter by now was emptied, and another may have its inode."""
+    """One of which nothing was read is not known again."""
     names = "x.log.1", "x.log"
     for moment, (name, lines) in enumerate(zip(names, ("a\nb\n", "c\nd\n"))):
         (tmp_path / name).write_text(lines)
         os.utime(tmp_path / name, (moment, moment))
-    inode = -1 if at is None else os.stat(tmp_path / names[at]).st_ino
-    with followed.left_at(str(tmp_path / "x.log"), followed.Place(inode, read)) or contextlib.nullcontext() as log:
+    place = place_at(tmp_path / names[at], read)
+    with followed.left_at(str(tmp_path / "x.log"), place) or contextlib.nullcontext() as log:
         assert (log.read() if log else None) == left
     assert followed.left_at(str(tmp_path / "x.log"), None) is None
+
+
+def place_at(path, read):
+    with open(path, "rb") as log:
+        log.seek(read)
+        place = followed.place_of(log)
+    return place if os.path.getsize(path) >= read else place._replace(digest="of what is gone")
+
+
+class Waits(Exception):
+    """There are no lines now."""
+
+
+def lines_until_a_wait(monkeypatch, found):
+    with_time(monkeypatch, followed, sleep=raises(Waits()))
+    lines = []
+    with pytest.raises(Waits):
+        for line, _ in found:
+            lines += [line.strip()] if line else []
+    return lines
+
+
+@pytest.mark.parametrize("old, lines", [("x.log.2", "bqcde"), ("x.log.2.gz", "abqcde")])
+def test_a_new_log_with_the_inode_of_an_old_one_is_read_from_its_start(monkeypatch, tmp_path, old, lines):
+    """ext4 gives the inode of a log that logrotate compressed to the next one. All of a compressed one is read."""
+    log = tmp_path / "x.log"
+    log.write_text("a\nb\n")
+    place = place_at(log, 2)
+    (tmp_path / old).write_bytes(gzip.compress(log.read_bytes()) if old.endswith("gz") else log.read_bytes())
+    (tmp_path / "x.log.1").write_text("q\n")
+    for moment, name in enumerate((old, "x.log.1")):
+        os.utime(tmp_path / name, (moment, moment))
+    log.write_text("c\nd\ne\n")
+    assert os.stat(log).st_ino == place.inode
+    assert lines_until_a_wait(monkeypatch, followed.lines_from(str(log), place)) == list(lines)
+
+
+def test_a_log_that_was_copied_and_emptied_loses_no_line(monkeypatch, tmp_path):
+    """logrotate's copytruncate: the copy has a line that was not read yet, and the log is as long as before again."""
+    log, copy = tmp_path / "x.log", tmp_path / "x.log.1"
+    log.write_text("a\n")
+    found = followed.lines_from(str(log), None)
+    assert [next(found)[0] for _ in range(2)] == ["a\n", ""]
+    copy.write_text("a\nb\n")
+    log.write_text("c\n")
+    with_time(monkeypatch, followed, sleep=lambda _: None)
+    assert [next(found)[0] for _ in range(2)] == ["b\n", "c\n"]
+    found.close()

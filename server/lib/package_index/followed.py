@@ -1,39 +1,50 @@
 """A log that is read as it grows, and goes on where it was left: over a rotation, and over an end of the reader."""
 from __future__ import annotations
 
+import hashlib
 import os
 import time
-from typing import BinaryIO, Iterator, NamedTuple, Optional, Tuple
+from typing import BinaryIO, Generator, Iterator, NamedTuple, Optional, Tuple
 
 from package_index.changes import lines_of, rotated
 from package_index.disk import put_whole
 
 PAUSE = 0.2
+# of what was read, the last bytes by which a log is known again
+TAIL = 256
 
 
 class Place(NamedTuple):
-    """Up to where a log was read: which file by its inode, and how many bytes of it."""
+    """Up to where a log was read: which file by its inode, how many bytes of it, and the digest of the last of these. A
+    new log may get the inode of one that was compressed, and an emptied one keeps it: they have other bytes there."""
     inode: int
     read: int
+    digest: str
 
 
 def place_in(path: str) -> Optional[Place]:
     """The place that was kept in a file; None if there is none, or none that can be read."""
     try:
         with open(path, encoding="ascii") as kept:
-            inode, read = map(int, kept.read().split())
-        return Place(inode, read)
+            inode, read, digest = kept.read().split()
+        return Place(int(inode), int(read), digest)
     except (FileNotFoundError, ValueError):
         return None
 
 
-def keep_place(path: str, place: Tuple[int, object]) -> None:
+def keep_place(path: str, place: Tuple[object, ...]) -> None:
     """Also that of a list of another nginx."""
-    put_whole(path, "{} {}\n".format(*place))
+    put_whole(path, f"{' '.join(map(str, place))}\n")
+
+
+def digest_at(log: BinaryIO, read: int) -> str:
+    """The digest of the last bytes before this one."""
+    size = min(read, TAIL)
+    return hashlib.sha256(os.pread(log.fileno(), size, read - size)).hexdigest()
 
 
 def place_of(log: BinaryIO) -> Place:
-    return Place(os.fstat(log.fileno()).st_ino, log.tell())
+    return Place(os.fstat(log.fileno()).st_ino, log.tell(), digest_at(log, log.tell()))
 
 
 def whole_lines(log: BinaryIO) -> Iterator[str]:
@@ -46,12 +57,17 @@ def whole_lines(log: BinaryIO) -> Iterator[str]:
 
 
 def left_at(path: str, place: Optional[Place]) -> Optional[BinaryIO]:
-    """The log of this place, which may be rotated away, open there."""
-    for each in rotated(path):
-        if place and os.stat(each).st_ino == place.inode and os.path.getsize(each) >= place.read:
-            log = open(each, "rb")
+    """The log of this place, which may be rotated away, open there; or a copy of it, if it was emptied since. None if
+    there is none, or if nothing of it was read, by which it could be known."""
+    if not place or not place.read:
+        return None
+    inode = place.inode
+    for each in sorted(rotated(path), key=lambda it: os.stat(it).st_ino != inode):
+        log = open(each, "rb")
+        if digest_at(log, place.read) == place.digest:
             log.seek(place.read)
             return log
+        log.close()
     return None
 
 
@@ -64,20 +80,29 @@ def is_followed_by(path: str, log: BinaryIO) -> bool:
     return newer.st_ino != os.fstat(log.fileno()).st_ino and newer.st_size > 0
 
 
-def lines_of_one(log: BinaryIO, path: str) -> Iterator[Tuple[str, Optional[Place]]]:
+def lines_of_one(log: BinaryIO, path: str) -> Generator[Tuple[str, Optional[Place]], None, Optional[Place]]:
     """The lines of one log of this path until it was rotated away, each with the place behind it. An empty line says
-    that there is none now."""
-    is_last = False
+    that there is none now. Returns the last place if the log was emptied, as logrotate's copytruncate does."""
+    is_last, place = False, place_of(log)
     while not is_last:
         is_last = is_followed_by(path, log)
+        if digest_at(log, place.read) != place.digest:
+            return place
         for line in whole_lines(log):
-            yield line, place_of(log)
-        if os.fstat(log.fileno()).st_size < log.tell():
-            # it was emptied
-            log.seek(0)
-        yield "", place_of(log)
+            place = place_of(log)
+            yield line, place
+        yield "", place
         if not is_last:
             time.sleep(PAUSE)
+    return None
+
+
+def lines_until_gone(log: BinaryIO, path: str) -> Iterator[Tuple[str, Optional[Place]]]:
+    """The same, and if the log was emptied, the lines that only a copy of it has."""
+    copy = left_at(path, (yield from lines_of_one(log, path)))
+    if copy:
+        with copy:
+            yield from ((line, None) for line in whole_lines(copy))
 
 
 def rotated_since(path: str, inode: int) -> Iterator[str]:
@@ -92,15 +117,16 @@ def rotated_since(path: str, inode: int) -> Iterator[str]:
 def lines_from(path: str, place: Optional[Place]) -> Iterator[Tuple[str, Optional[Place]]]:
     """The lines of a log from this place on, and for ever those that come, over its rotations. If the place is not
     there any more, all that is left of the log is read."""
-    left = left_at(path, place)
+    left, inode = left_at(path, place), 0
     if left:
         with left:
-            yield from lines_of_one(left, path)
-    yield from ((line, None) for line in rotated_since(path, place.inode if left and place else 0))
+            inode = os.fstat(left.fileno()).st_ino
+            yield from lines_until_gone(left, path)
+    yield from ((line, None) for line in rotated_since(path, inode))
     while True:
         if os.path.exists(path):
             with open(path, "rb") as log:
-                yield from lines_of_one(log, path)
+                yield from lines_until_gone(log, path)
         else:
             yield "", None
             time.sleep(PAUSE)
