@@ -126,8 +126,10 @@ class Desk:
         raise Stop(self.status(), "Nothing was done.")
 
     def caller(self) -> str:
-        """Whether the token is of the office, of another user, or of nobody.
+        """Whether the token is of the office, of another user, or of nobody; unknown if the address leads to several
+        indexes.
 
         It asks to allow `-`, which is no name, so that nothing can change."""
         answer = self.post("the token", {"do": "allow", "name": "-"}, is_kept=False)[1]
-        return {"BadName": "office", "NotOffice": "user"}.get(answer, "nobody")
+        known = {"BadName": "office", "NotOffice": "user", "NoIndexName": "unknown"}
+        return known.get(answer, "nobody")

@@ -30,6 +30,14 @@ def check_names(*names: str) -> None:
                               "a letter or digit at both ends.")
 
 
+def check_texts(*texts: str) -> None:
+    """Stops unless each is text: Python keeps bytes that are none by the locale, and no index takes them."""
+    for text in texts:
+        if any("\ud800" <= it <= "\udfff" for it in text):
+            raise Stop(WRONG, f"{text!r} has bytes that are no text in the coding of your locale. Write it in that, or "
+                              "set LANG, as to C.UTF-8.")
+
+
 def check_users(*users: str) -> None:
     for user in users:
         if not is_user(user):

@@ -73,6 +73,14 @@ def is_loopback(host: str) -> bool:
         return False
 
 
+def is_host(name: str) -> bool:
+    """Whether a host may have this name: none has a space, or a label that is empty or too long."""
+    try:
+        return bool(name.encode("idna")) and not re.search(r"[\s\\]", name)
+    except UnicodeError:
+        return False
+
+
 def without_password(url: str) -> str:
     """An address as it may be printed: a password in it would end up in a pipeline's log."""
     before, _, rest = url.rpartition("@")
@@ -87,7 +95,8 @@ def parts_of_url(url: str, what: str) -> urllib.parse.SplitResult:
         _ = parts.port
     except ValueError as end:
         raise Stop(WRONG, f"{what} is {shown!r}. Write an address such as https://packages.example.") from end
-    if parts.scheme not in ("http", "https") or not parts.hostname or parts.path.strip("/") or parts.query:
+    is_whole = parts.scheme in ("http", "https") and is_host(parts.hostname or "")
+    if not is_whole or not parts.hostname or parts.path.strip("/") or parts.query:
         raise Stop(WRONG, f"{what} is {shown!r}, not an address such as https://packages.example, without a path.")
     if parts.scheme == "http" and not is_loopback(parts.hostname):
         raise Stop(WRONG, f"{what} has to be https: a token is a password, and would cross the network in the clear.")
@@ -134,9 +143,12 @@ def read_profiles() -> Dict[str, Dict[str, str]]:
     """The profiles of ~/.config/indexctl.ini by name."""
     found = configparser.ConfigParser(interpolation=None, default_section="")
     try:
-        found.read(os.path.expanduser(PROFILES), encoding="utf-8-sig")
+        with open(os.path.expanduser(PROFILES), encoding="utf-8-sig") as kept:
+            found.read_file(kept)
+    except (FileNotFoundError, NotADirectoryError):
+        return {}
     except (configparser.Error, UnicodeDecodeError, OSError) as end:
-        raise Stop(WRONG, f"{PROFILES} can't be read: {end}") from end
+        raise Stop(WRONG, f"{PROFILES} can't be read: {' '.join(str(end).split())}") from end
     for name in found.sections():
         for key in found[name]:
             if key == "token":

@@ -109,7 +109,8 @@ class Index:
             made = self.opened(through.hostname or "", through.port or 80)
             made.set_tunnel(host, port or 443)
             return made
-        return self.opened(host, port)
+        # (without a port http.client takes one from the end of an address of IPv6)
+        return self.opened(host, port or (443 if self.trust else 80))
 
     def connect(self, connection: HTTPConnection) -> None:
         try:

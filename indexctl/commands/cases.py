@@ -13,7 +13,7 @@ from indexctl.commands.arguments import JSON, NAME, YES
 from indexctl.commands.listings import held
 from indexctl.commands.names import change_name
 from indexctl.ends import REFUSED, WRONG, Stop
-from indexctl.names import check_names
+from indexctl.names import check_names, check_texts
 from indexctl.probe import open_cases
 from indexctl.standings import held_names
 from indexctl.terminal import Columns, as_json, confirm, listing, note, print_block, printable, texts
@@ -68,8 +68,9 @@ def case_show(args: argparse.Namespace) -> None:
          argument("--why", required=True, metavar="TEXT", help="why another name won't do"))
 def case_open(args: argparse.Namespace) -> int:
     check_names(args.name)
+    check_texts(args.contact, args.work, args.why)
     for text in (args.contact, args.work, args.why):
-        size = len(text.encode("utf-8", "surrogateescape"))
+        size = len(text.encode())
         if not 1 <= size <= MOST_TEXT:
             raise Stop(WRONG, f"A text of a case has 1 to {MOST_TEXT} bytes, and {text[:60]!r} has {size}.")
     return change_name(args, f"case of {args.name}: open", do="open_case", kind=args.kind, contact=args.contact,

@@ -12,7 +12,7 @@ from indexctl.commands.cached import tell_uncache
 from indexctl.commands.names import change_name
 from indexctl.contents import FileRow, find_contents, releases_of
 from indexctl.ends import WRONG, Stop
-from indexctl.names import check_names, project_of
+from indexctl.names import check_names, check_texts, project_of
 from indexctl.near import did_you_mean, not_held
 from indexctl.terminal import confirm, confirm_on_terminal
 from indexctl.transport import Index
@@ -75,7 +75,8 @@ def release_yank(args: argparse.Namespace) -> int:
 
 def check_reason(text: str) -> None:
     """Stops unless the index takes this reason: a refusal would not say which of its rules it is."""
-    size = len(text.encode("utf-8", "surrogateescape"))
+    check_texts(text)
+    size = len(text.encode())
     if size > MOST_TEXT:
         raise Stop(WRONG, f"A reason has {MOST_TEXT} bytes at most, and this one has {size}.")
     if any(unicodedata.category(it) == "Cc" for it in text):

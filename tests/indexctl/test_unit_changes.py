@@ -164,7 +164,8 @@ def test_who_may_not_ask_for_users_is_told(desk):
     assert end.value.status == REFUSED
 
 
-@pytest.mark.parametrize("name, caller", [("BadName", "office"), ("NotOffice", "user"), ("BadToken", "nobody")])
+@pytest.mark.parametrize("name, caller", [("BadName", "office"), ("NotOffice", "user"), ("BadToken", "nobody"),
+                                          ("NoIndexName", "unknown")])
 def test_a_caller_is_of_the_office_or_a_user_or_nobody(desk, tmp_path, name, caller):
     one = desk(answer(400, "refused", name=name), record=str(tmp_path / "none" / "r"))
     assert one.caller() == caller

@@ -105,7 +105,8 @@ def test_an_address_is_shown_without_its_password(url, shown):
 
 @pytest.mark.parametrize("url", [
     "packages.example", "ftp://packages.example", "https://", "https://h/simple", "https://h?x", "https://h:x",
-    "https://h:70000", "https://[::", "http://packages.example", "http://10.0.0.1"])
+    "https://h:70000", "https://[::", "http://packages.example", "http://10.0.0.1", "https://h..example",
+    f"https://{'h' * 64}", "https://h h", "https://h ", "https://h\\h", "https://h\udcf6"])
 def test_what_is_no_address_of_an_index_is_refused(url):
     with pytest.raises(Stop, match="^INDEX_URL ") as end:
         settings.parts_of_url(url, "INDEX_URL")
@@ -113,7 +114,8 @@ def test_what_is_no_address_of_an_index_is_refused(url):
 
 
 @pytest.mark.parametrize("url", ["https://packages.example", "https://packages.example/", "http://localhost:8080",
-                                 "http://[::1]", "https://ann:pw@packages.example:8443"])
+                                 "http://[::1]", "https://ann:pw@packages.example:8443", "https://gr\u00f6sse.example",
+                                 f"https://{'h' * 63}.", "https://a_b"])
 def test_an_address_of_an_index_is_taken(url):
     assert settings.parts_of_url(url, "INDEX_URL").hostname
 
@@ -198,6 +200,13 @@ def test_profiles_with_a_slip_are_told(home, text, said):
     with pytest.raises(Stop, match=said) as end:
         settings.read_profiles()
     assert end.value.status == WRONG
+
+
+def test_a_file_of_profiles_that_can_t_be_read_is_told(home):
+    """To say that no index is named would have a person write what is there."""
+    (home / ".config" / "indexctl.ini").mkdir(parents=True)
+    with pytest.raises(Stop, match=r"^~/.config/indexctl.ini can't be read: .*Is a directory"):
+        settings.read_profiles()
 
 
 def test_the_one_profile_is_taken_and_of_several_the_default(home):

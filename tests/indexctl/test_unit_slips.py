@@ -50,7 +50,7 @@ def test_a_slip_in_a_size_is_told_before_the_index_is_asked(run, size):
 
 @pytest.mark.parametrize("reason, said", [("x" * 513, "512 bytes at most, and this one has 513"),
                                           ("\u00e9" * 257, "has 514"), ("a\nb", "is one line"), ("a\tb", "is one line"),
-                                          ("a\x85", "is one line")])
+                                          ("a\x85", "is one line"), ("gr\udcf6", "no text in the coding of your")])
 def test_a_reason_that_the_index_would_refuse_is_told(run, reason, said):
     assert said in told(run, "release", "yank", "frob", "1.0", "--reason", reason)
 
@@ -58,6 +58,19 @@ def test_a_reason_that_the_index_would_refuse_is_told(run, reason, said):
 @pytest.mark.parametrize("reason", ["x" * 512, "\u00e9" * 256, "", "loses <data> \U0001f4a5"])
 def test_any_other_reason_goes_out(run, reason):
     assert run.asked("release", "yank", "frob", "1.0", "--reason", reason)[0]["reason"] == reason
+
+
+def test_an_address_of_several_indexes_tells_of_no_token(run):
+    run.desk.is_caller = "unknown"
+    with pytest.raises(Stop, match="leads to several indexes, each with users of its own"):
+        run("token", "check")
+
+
+@pytest.mark.parametrize("option", ["--contact", "--work", "--why"])
+def test_bytes_of_a_case_that_are_no_text_are_told(run, option):
+    words = {"--contact": "c", "--work": "w", "--why": "y", option: "gr\udcf6"}
+    said = told(run, "case", "open", "frob", "--kind", "reuse", *(it for pair in words.items() for it in pair))
+    assert "no text in the coding of your locale" in said
 
 
 @pytest.mark.parametrize("path", ["dits/", "dits", "frob-1.0.tar.gz", "none.whl"])

@@ -165,6 +165,9 @@ def test_a_connection_is_to_the_address(monkeypatch):
     ("https://127.0.0.1:9", "http://proxy.test:3128", "", "127.0.0.1", 9, (None, None)),
     ("https://packages.test:9", "", "", "packages.test", 9, (None, None))])
 def test_a_connection_goes_through_the_proxy_of_the_network(monkeypatch, url, proxy, no_proxy, host, port, tunnel):
+    for url, port in (("http://[::1]", 80), ("https://[::1]", 443)):
+        found = index_of(url).connection()
+        assert (found.host, found.port) == ("::1", port)
     for name, value in (("https_proxy", proxy), ("no_proxy", no_proxy)):
         monkeypatch.delenv(name.upper(), raising=False)
         monkeypatch.setenv(name, value)
