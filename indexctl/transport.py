@@ -217,8 +217,10 @@ class Index:
                 note(f"{what}: {why}. Again in {pause:g} s.")
                 time.sleep(pause)
         maybe = " It may have been done, and is in no record then." if is_repeat and request.method != "GET" else ""
-        raise Stop(UNREACHED, f"{what}: {why}, {counted(self.again + 1, 'time')}. The index at {self.setting.url} does "
-                              f"not answer now.{maybe} Run this again later.")
+        cause = f"The index at {self.setting.url} does not answer now."
+        if why == "500 Store" and request.method != "GET":
+            cause = hint("Store")
+        raise Stop(UNREACHED, f"{what}: {why}, {counted(self.again + 1, 'time')}. {cause}{maybe} Run this again later.")
 
 
 def read_plain(peer: socket.socket, count: int, found: List[Optional[bytes]]) -> bool:

@@ -123,6 +123,15 @@ def test_a_change_without_a_reply_may_have_been_done(trial, request_, ends, said
     assert ("It may have been done, and is in no record then." in str(end.value)) == said
 
 
+@pytest.mark.parametrize("request_, name, said", [
+    (POST, "Store", "could not write to its disk. Tell the office."), (GET, "Store", "does not answer now"),
+    (POST, "Unavailable", "does not answer now")])
+def test_a_full_disk_of_the_index_is_told_as_such(trial, request_, name, said):
+    with pytest.raises(Stop, match=said) as end:
+        trial([reply(500, b'{"name":"%s"}' % name.encode())], again=0).index.ask("x", request_)
+    assert end.value.status == UNREACHED
+
+
 @pytest.mark.parametrize("status, end, said", [
     (401, REFUSED, "asks for a password"), (301, WRONG, "a redirect to https://b"), (302, WRONG, "a redirect"),
     (303, WRONG, "a redirect"), (307, WRONG, "a redirect"), (308, WRONG, "a redirect"),
@@ -156,6 +165,9 @@ def test_a_connection_is_to_the_address(monkeypatch):
     found = index_of("http://127.0.0.1:8080").connection()
     assert (found.host, found.port, found.timeout, found._tunnel_host) == ("127.0.0.1", 8080, 90, None)
     assert index_of("http://[::1]:8080").connection().host == "::1"
+    for url, port in (("http://[::1]", 80), ("https://[::1]", 443)):
+        found = index_of(url).connection()
+        assert (found.host, found.port) == ("::1", port)
 
 
 @pytest.mark.parametrize("url, proxy, no_proxy, host, port, tunnel", [
@@ -165,9 +177,6 @@ def test_a_connection_is_to_the_address(monkeypatch):
     ("https://127.0.0.1:9", "http://proxy.test:3128", "", "127.0.0.1", 9, (None, None)),
     ("https://packages.test:9", "", "", "packages.test", 9, (None, None))])
 def test_a_connection_goes_through_the_proxy_of_the_network(monkeypatch, url, proxy, no_proxy, host, port, tunnel):
-    for url, port in (("http://[::1]", 80), ("https://[::1]", 443)):
-        found = index_of(url).connection()
-        assert (found.host, found.port) == ("::1", port)
     for name, value in (("https_proxy", proxy), ("no_proxy", no_proxy)):
         monkeypatch.delenv(name.upper(), raising=False)
         monkeypatch.setenv(name, value)
