@@ -41,7 +41,7 @@ class Progress:
 
     def __init__(self, what: str, total: int) -> None:
         self.what, self.total, self.done, self.last = what, total, 0, 0.0
-        self.is_watched = sys.stderr.isatty()
+        self.is_watched = sys.stderr.isatty() and os.environ.get("TERM") != "dumb"
 
     def __enter__(self) -> Progress:
         return self

@@ -54,6 +54,7 @@ class Clock:
     def __init__(self, monkeypatch):
         self.now = 100.0
         with_time(monkeypatch, terminal, monotonic=lambda: self.now)
+        monkeypatch.setenv("TERM", "xterm")
 
 
 def test_progress_is_drawn_ten_times_a_second_and_cleared(monkeypatch):
@@ -88,6 +89,15 @@ def test_progress_fits_the_terminal_and_counts_nothing_as_nothing(monkeypatch):
     with terminal.Progress("n" * 80, 0) as progress:
         progress.step(0)
     assert stream.getvalue().startswith(f"\r{'n' * 39}\033[K")
+
+
+def test_a_terminal_that_moves_no_cursor_shows_no_progress(monkeypatch):
+    stream, _ = Tty(), Clock(monkeypatch)
+    monkeypatch.setattr(sys, "stderr", stream)
+    monkeypatch.setenv("TERM", "dumb")
+    with terminal.Progress("names", 3) as progress:
+        progress.step()
+    assert stream.getvalue() == ""
 
 
 def test_without_a_terminal_there_is_no_progress(capsys):
