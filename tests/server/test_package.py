@@ -74,12 +74,17 @@ def test_a_program_that_is_not_proved_is_refused(tmp_path):
 
 
 def test_all_of_server_and_indexctl_is_in_it(paths):
-    names = {os.path.basename(it) for it in paths} | {"index.sysusers.conf", "one-index.conf", "index.bash-completion"}
+    names = {os.path.basename(it) for it in paths} | {"index.sysusers.conf", "index.bash-completion"}
     wanted = {it for at, _, inside in os.walk(SERVER) for it in inside if not re.search("/(debian|__pycache__)", at)}
     assert len(wanted) > 30 and not wanted - names - {"README.md"}
     assert {"usr/bin/indexctl", "usr/lib/python3/dist-packages/package_index/names.py",
             "usr/share/bash-completion/completions/index",
             "usr/share/bash-completion/completions/indexctl", "usr/lib/sysusers.d/package-index.conf"} <= paths
+
+
+def test_each_file_for_nginx_has_its_original_there(paths):
+    """Whoever put another one in the place of indexes.conf finds one-index.conf to go back to."""
+    assert {f"usr/share/package-index/{it}" for it in os.listdir(f"{SERVER}/nginx")} <= paths
 
 
 def test_all_pages_of_docs_are_in_it(paths, looked):
