@@ -6,6 +6,7 @@ import types
 
 import pytest
 from support.library import ends as library_ends
+from support.library import exchange
 from support.places import TOP
 from support.programs import program_of
 from support.unit import calls, ends, raises, with_time
@@ -190,6 +191,22 @@ def test_room_is_wanted_for_the_log_twice_before_anything_is_copied(tmp_path, mo
 def test_a_database_that_is_not_there_is_told(tmp_path, monkeypatch, capsys):
     status, out, err = ends(BACKUP, monkeypatch, capsys, tmp_path / "none.db", tmp_path)
     assert (status, out) == (1, "") and "index-backup: " in err and "none.db" in err
+
+
+def test_a_second_backup_at_the_same_time_is_refused_and_takes_no_part_away(tmp_path, monkeypatch, capsys):
+    """Two that began in one second had one name: the first could keep a copy without its log."""
+    part = tmp_path / "index-20260101T000000Z.part-wal"
+    part.touch()
+    with exchange.alone(str(tmp_path), "x"):
+        status, _, err = ends(BACKUP, monkeypatch, capsys, tmp_path / "index.db", tmp_path)
+    assert status == 1 and f"{tmp_path}: another index-backup is at work there" in err and part.exists()
+
+
+@pytest.mark.parametrize("end", [OSError(9, "a folder on NFS"), OSError(38, "no locks")])
+def test_a_folder_that_can_t_be_locked_takes_copies_all_the_same(tmp_path, monkeypatch, end):
+    monkeypatch.setattr(exchange.fcntl, "flock", raises(end))
+    calls(monkeypatch, BACKUP, "made_alone", "a line")
+    assert BACKUP.backup("db", str(tmp_path), 1, None) == "a line"
 
 
 def test_the_words_of_a_backup(monkeypatch, capsys):

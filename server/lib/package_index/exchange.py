@@ -23,8 +23,11 @@ def alone(folder: str, name: str) -> Iterator[None]:
     try:
         try:
             fcntl.flock(opened, fcntl.LOCK_EX | fcntl.LOCK_NB)
-        except OSError:
+        except BlockingIOError:
             raise Refused(f"{folder}: another {name} is at work there") from None
+        except OSError:
+            # a file system that locks no folder, such as NFS, tells of nobody
+            pass
         yield
     finally:
         os.close(opened)
