@@ -192,10 +192,11 @@ def test_the_file_of_the_package_is_right_once_an_operator_has_put_the_switches_
 
 def test_the_file_lets_pacemaker_promote_only_a_whole_copy_and_cut_the_power():
     """The first score is that of a copy which was not connected since it started, the second of one that lacks
-    parts."""
+    parts. Then the only whole copy may be that of the machine whose power is cut, which has to start again."""
     text = shipped()
     for line in ('adjust_master_score="0 0 1000 10000"', "promotable=true", "promoted-max=1", "stonith-enabled=true",
-                 "no-quorum-policy=stop", "colocation serves-by-a-copy inf: serves copies:Promoted"):
+                 "stonith-action=reboot", "no-quorum-policy=stop",
+                 "colocation serves-by-a-copy inf: serves copies:Promoted"):
         assert text.count(line) == 1, line
 
 
