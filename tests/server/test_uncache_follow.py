@@ -215,6 +215,13 @@ def test_a_change_without_an_answer_is_taken_out_if_an_index_got_it(status, more
     assert FOLLOW.removed_by(line) == (["a", "a-1.zip"] if is_gone else [])
 
 
+def test_a_line_that_can_not_be_read_is_told_without_a_body(capsys):
+    """It may have said what is to go out, and has the digest of a token."""
+    line = json.dumps({"at": "x", "status": 200, "method": "POST", "path": "/requests" + "x" * 99, "body": "digest"})
+    assert FOLLOW.removed_by(line[:-1]) == [] and FOLLOW.removed_by("\n") == []
+    assert capsys.readouterr().err == f"index-uncache-follow: passed over, since it can't be read: {line[:120]}\n"
+
+
 def test_a_file_that_can_not_be_taken_out_is_told_and_tried_again(tmp_path):
     """As one of another user: the place stays before the line."""
     make_cache(str(tmp_path / "cache"), [("a", "b")])

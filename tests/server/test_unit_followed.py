@@ -1,10 +1,12 @@
 """A log that is followed: how often it is looked at, and what was rotated away."""
 import contextlib
+import datetime
 import gzip
+import json
 import os
 
 import pytest
-from support.library import followed
+from support.library import changes, followed
 from support.unit import raises, with_time
 
 
@@ -93,3 +95,30 @@ def test_a_log_that_was_copied_and_emptied_loses_no_line(monkeypatch, tmp_path):
     with_time(monkeypatch, followed, sleep=lambda _: None)
     assert [next(found)[0] for _ in range(2)] == ["b\n", "c\n"]
     found.close()
+
+
+@pytest.fixture(params=["cut", "overwritten", "no gzip"])
+def damaged(request, tmp_path):
+    """A log, of which the part that was compressed is damaged."""
+    lines = [json.dumps({"at": "2026-11-01T00:00:00+00:00", "body": os.urandom(60).hex()}) + "\n" for _ in range(999)]
+    packed = gzip.compress("".join(lines).encode())
+    there = {"cut": packed[:-9000], "overwritten": packed[:30000] + bytes(90) + packed[30090:], "no gzip": b"x"}
+    for moment, (name, data) in enumerate((("x.log.2.gz", there[request.param]), ("x.log.1", lines[0].encode()))):
+        (tmp_path / name).write_bytes(data)
+        os.utime(tmp_path / name, (moment, moment))
+    (tmp_path / "x.log").touch()
+    return str(tmp_path / "x.log")
+
+
+def test_a_damaged_log_is_told_and_loses_no_other_line(damaged, tmp_path):
+    since = datetime.datetime(2026, 1, 1, tzinfo=datetime.timezone.utc)
+    said = changes.changes_since([damaged], since, f"{tmp_path}/made").split("\n   ")
+    made = (tmp_path / "made").read_text().splitlines()
+    assert said[0].startswith(f"nginx passed on {len(made) - 1} of them") and len(said) == 2
+    assert said[1].startswith(f"{damaged}.2.gz: ") and said[1].endswith("no more of this log can be read")
+    assert made[-2] == said[1] and json.loads(made[-1])["at"]
+
+
+def test_a_damaged_log_is_followed_by_the_next(damaged):
+    lines = list(followed.rotated_since(damaged, 0))
+    assert changes.DAMAGED in lines[-2] and json.loads(lines[-1])["at"]

@@ -6,7 +6,11 @@ import glob
 import gzip
 import json
 import os
+import zlib
 from typing import Iterator, List, Optional, Sequence, Tuple
+
+# how a line ends that stands for the rest of a damaged log; no line of nginx does
+DAMAGED = "no more of this log can be read"
 
 
 def moment_of(line: str, since: datetime.datetime) -> Optional[datetime.datetime]:
@@ -26,10 +30,14 @@ def rotated(log: str) -> List[str]:
 
 
 def lines_of(path: str) -> Iterator[str]:
-    """The lines of a log, which may be compressed."""
+    """The lines of a log, which may be compressed. One that is damaged, as by a power cut, ends by a line that says so:
+    what was read, and other logs, are not lost with it."""
     if path.endswith(".gz"):
         with gzip.open(path, "rt", errors="replace") as packed:
-            yield from packed
+            try:
+                yield from packed
+            except (EOFError, zlib.error, gzip.BadGzipFile) as end:
+                yield f"{path}: {end}: {DAMAGED}\n"
     else:
         with open(path, errors="replace") as plain:
             yield from plain
@@ -55,5 +63,7 @@ def changes_since(logs: Sequence[str], since: datetime.datetime, target: str) ->
         lines = sorted((it for log in logs for it in dated(log, since)), key=lambda it: it[0])
         with open(target, "w") as made:
             made.writelines(line for _, line in lines)
-        said.insert(0, f"nginx passed on {len(lines)} of them. They are in {target}, oldest first.")
+        damaged = [line.strip() for _, line in lines if line.endswith(f"{DAMAGED}\n")]
+        said = [f"nginx passed on {len(lines) - len(damaged)} of them. They are in {target}, oldest first.",
+                *damaged, *said]
     return "\n   ".join(said)
