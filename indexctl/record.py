@@ -3,10 +3,15 @@ from __future__ import annotations
 
 import json
 import os
+import time
 from contextlib import contextmanager, suppress
 from typing import Callable, Iterator, Mapping
 
 from indexctl.ends import WRONG, Stop
+from indexctl.terminal import note
+
+# how often a record that another run has is asked for, each tenth of a second, before a person is told
+QUIET_TRIALS = 20
 
 try:
     import fcntl
@@ -37,11 +42,21 @@ class Record:
             line, at = line[count:], at + count
         os.fsync(self.file)
 
+    def lock(self) -> None:
+        """Waits until no other run has the record. One that Ctrl-Z stopped keeps it, so a long wait is told."""
+        for _ in range(QUIET_TRIALS):
+            with suppress(BlockingIOError):
+                fcntl.flock(self.file, fcntl.LOCK_EX | fcntl.LOCK_NB)
+                return
+            time.sleep(0.1)
+        note(f"Another indexctl is at work with the record {self.path}, and this one waits for its end.", "yellow")
+        fcntl.flock(self.file, fcntl.LOCK_EX)
+
     @contextmanager
     def room(self, row: Mapping[str, object]) -> Iterator[Callable[[], None]]:
         """Gives what keeps this row. If that isn't called, the record stays as it was."""
         line = f"{json.dumps(row)}\n".encode()
-        fcntl.flock(self.file, fcntl.LOCK_EX)
+        self.lock()
         end, is_kept = os.fstat(self.file).st_size, []
         try:
             self.write(b" " * (len(line) - 1) + b"\n", end)

@@ -11,6 +11,7 @@ import pytest
 from indexctl import record as records
 from indexctl.ends import WRONG, Stop
 from indexctl.record import Record
+from support.unit import with_time
 
 
 def keep_rows(path, who, count, at_once):
@@ -68,6 +69,25 @@ def test_the_lock_is_given_back_if_the_change_fails(folder):
         with record.room({"a": 1}):
             raise KeyboardInterrupt
     assert is_free(path) and os.path.getsize(path) == 0
+
+
+@pytest.mark.parametrize("busy, said", [(0, ""), (19, ""), (20, "Another indexctl is at work with the record")])
+def test_who_waits_long_for_another_run_is_told(tmp_path, monkeypatch, capsys, busy, said):
+    """As for one that Ctrl-Z stopped: it has the record until it ends."""
+    asked, slept, lock = [], [], fcntl.flock
+
+    def flock(file, how):
+        asked.append(how)
+        if how & fcntl.LOCK_NB and len(asked) <= busy:
+            raise BlockingIOError
+        lock(file, how)
+
+    with_time(monkeypatch, records, sleep=slept.append)
+    monkeypatch.setattr(records.fcntl, "flock", flock)
+    Record(f"{tmp_path}/record").lock()
+    told = capsys.readouterr().err
+    assert said in told and bool(told) == bool(said) and len(slept) == busy
+    assert asked[-1] == fcntl.LOCK_EX | (0 if said else fcntl.LOCK_NB)
 
 
 def test_room_is_taken_whole_before_the_change(tmp_path):
