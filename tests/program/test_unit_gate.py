@@ -17,6 +17,8 @@ from support.programs import program_of
 ASKED = re.compile(r'want_(?:command|module)\((?:\w+, )?"[^"]+", "([^"]+)"\)')
 # of each Debian, or with another package
 THERE = {"systemd", "util-linux", "python3-keyring"}
+# of tests that are run by hand alone
+BY_HAND = {"debootstrap"}
 
 
 def test_each_package_that_a_test_asks_for_is_installed():
@@ -27,7 +29,7 @@ def test_each_package_that_a_test_asks_for_is_installed():
     with open(f"{TOP}/.ci/run", encoding="utf-8") as kept:
         installed = {*re.findall(r"[\w.+-]+", kept.read())}
     assert {"nginx-light", "nftables", "python3-html5lib"} <= asked
-    assert not asked - installed - THERE
+    assert not asked - installed - THERE - BY_HAND
 
 
 def test_tests_of_a_group_go_to_one_worker():

@@ -38,6 +38,7 @@ class Guest:
     cable: tuple[int, int]
     switch: str
     process: subprocess.Popen | None = None
+    address: str = "127.0.0.1"
     lock: threading.Lock = field(default_factory=threading.Lock)
 
     def __post_init__(self) -> None:
@@ -88,7 +89,7 @@ class Guest:
 
     def sh(self, script: str, patience: float = 600) -> tuple[int, str]:
         """The status of a script of commands there, and what it printed."""
-        connection = http.client.HTTPConnection("127.0.0.1", self.agent, timeout=patience)
+        connection = http.client.HTTPConnection(self.address, self.agent, timeout=patience)
         try:
             connection.request("POST", "/cgi-bin/run", script.encode() + b"\n")
             text = connection.getresponse().read().decode("utf-8", "replace")
@@ -105,7 +106,7 @@ class Guest:
 
     def fetch(self, path: str, to: str) -> bool:
         """Copies a file of the guest; False if it is not there."""
-        connection = http.client.HTTPConnection("127.0.0.1", self.agent, timeout=180)
+        connection = http.client.HTTPConnection(self.address, self.agent, timeout=180)
         try:
             connection.request("GET", f"/root{path}")
             reply = connection.getresponse()

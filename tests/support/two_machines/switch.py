@@ -8,17 +8,21 @@ from support.two_machines.guests import Guest
 
 
 class Switch(InThread):
-    """GET /off?two cuts the power of `two`, and says so once it is off. `asked` are the names that it was given."""
+    """GET /off?two cuts the power of `two`, and says so once it is off; GET /on?two starts it. `asked` are the names
+    whose power it was told to cut, and `cut` those whose power it has cut."""
 
-    def __init__(self) -> None:
+    def __init__(self, at: tuple[str, int] = ("127.0.0.1", 0)) -> None:
         self.guests: dict[str, Guest] = {}
         self.asked: list[str] = []
+        self.cut: list[str] = []
         self.works = True
         switch = self
 
         class Asked(http.server.BaseHTTPRequestHandler):
             def do_GET(self) -> None:
-                body = b"off\n" if switch.cuts(self.path.partition("?")[2]) else b"no\n"
+                what, _, name = self.path.partition("?")
+                does = switch.starts if what == "/on" else switch.cuts
+                body = f"{what[1:]}\n".encode() if does(name) else b"no\n"
                 self.send_response(200)
                 self.send_header("Content-Length", str(len(body)))
                 self.end_headers()
@@ -27,11 +31,18 @@ class Switch(InThread):
             def log_message(self, *_: object) -> None:
                 pass
 
-        self.server = http.server.ThreadingHTTPServer(("127.0.0.1", 0), Asked)
+        self.server = http.server.ThreadingHTTPServer(at, Asked)
 
     def cuts(self, name: str) -> bool:
         self.asked.append(name)
         if not self.works or name not in self.guests:
             return False
         self.guests[name].cut()
+        self.cut.append(name)
+        return True
+
+    def starts(self, name: str) -> bool:
+        if not self.works or name not in self.guests:
+            return False
+        self.guests[name].start()
         return True

@@ -23,7 +23,7 @@ class Served(Asking):
         self.guest = guest
 
     def ask(self, method: str, path: str, body=None, **headers) -> tuple:
-        return exchange(http.client.HTTPConnection("127.0.0.1", self.guest.port, timeout=60), method, path, body,
+        return exchange(http.client.HTTPConnection(self.guest.address, self.guest.port, timeout=60), method, path, body,
                         headers)
 
     def answers(self, patience: float = 1800) -> bool:
