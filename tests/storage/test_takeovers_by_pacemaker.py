@@ -15,7 +15,8 @@ import tempfile
 import pytest
 from support.two_machines.by_pacemaker import kept_by_pacemaker
 from support.two_machines.native import want_packages
-from support.two_machines.takeovers import cut_again_and_again, cut_in_a_resync, pull_the_cable, without_fencing
+from support.two_machines.takeovers import (cut_again_and_again, cut_both, cut_in_a_resync, pull_the_cable,
+                                            without_fencing)
 from support.two_machines.whole_root import make_root
 
 ROUNDS = 3
@@ -36,6 +37,11 @@ def resync(pair, index, folder, program, count, chance, looked):
     cut_in_a_resync(pair, index, folder, program, chance, looked)
 
 
+def both(pair, index, folder, program, count, chance, looked):
+    """The power of both machines is cut at once: they start, one serves again, and nothing is lost."""
+    cut_both(pair, index, folder, program, chance, looked)
+
+
 def cable(pair, index, folder, program, count, chance, looked):
     """The cable is out: one machine is left, and without a power switch nobody accepts."""
     pull_the_cable(pair, index, folder, program, chance, looked)
@@ -46,7 +52,7 @@ def defaults(pair, index, folder, program, count, chance, looked):
     without_fencing(pair, index, looked)
 
 
-PARTS = {"rounds": rounds, "resync": resync, "cable": cable, "defaults": defaults}
+PARTS = {"rounds": rounds, "resync": resync, "both": both, "cable": cable, "defaults": defaults}
 
 
 @pytest.mark.by_hand("two_machines")

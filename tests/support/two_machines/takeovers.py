@@ -4,7 +4,8 @@ from __future__ import annotations
 import random
 import time
 
-from support.two_machines.by_pacemaker import MINE, PATIENCE, SEEN, on_both, wait_for, wait_until_in_step
+from support.two_machines.by_pacemaker import (MINE, PATIENCE, SEEN, on_both, wait_for, wait_for_serving,
+                                               wait_until_in_step)
 from support.two_machines.pair import Pair, out_of_step, state_of
 from support.two_machines.partitions import accepts
 from support.two_machines.rounds import LATEST, PAUSE, Rounds, look
@@ -74,6 +75,28 @@ def cut_in_a_resync(pair: Pair, index: Served, folder: str, program: str, chance
         looked(not wrong, wrong[:5])
         on_both(pair, QUICKLY)
         wait_until_in_step(pair, index)
+
+
+def cut_both(pair: Pair, index: Served, folder: str, program: str, chance: random.Random, looked) -> None:
+    """The power of both machines is cut at once, and both start: one serves again."""
+    with Uploader(index, "frob", random.Random(chance.random()), PAUSE) as uploader:
+        looked(uploader.goes_on(), "no uploads", pair.states())
+        time.sleep(chance.uniform(1, LATEST))
+        cut = len(pair.switch.cut)
+        for guest in pair.guests:
+            guest.cut()
+        begun, acknowledged = time.monotonic(), len(uploader.files)
+        for guest in pair.guests:
+            guest.start()
+        for guest in pair.guests:
+            guest.booted()
+        index.guest = wait_for_serving(pair)
+        looked(uploader.goes_on(), "it does not go on", index.guest.sh(SEEN))
+        print(f"both cut: {index.guest.name} accepts {time.monotonic() - begun:.1f} s after both are started, "
+              f"{acknowledged} acknowledged, {pair.switch.cut[cut:]} cut", flush=True)
+        wait_until_in_step(pair, index)
+    wrong = look(index.guest, folder, program, [uploader])
+    looked(not wrong, wrong[:5])
 
 
 def one_survives(pair: Pair, index: Served, uploader: Uploader, looked) -> None:
