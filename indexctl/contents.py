@@ -1,8 +1,9 @@
 """What a project has: its files, and its releases with their yanks."""
 from __future__ import annotations
 
+import itertools
 from dataclasses import dataclass
-from typing import Any, Dict, List, Optional, Sequence
+from typing import Any, Dict, List, Optional, Sequence, Tuple
 
 from indexctl.standings import find_page, is_number
 from indexctl.transport import Index
@@ -19,6 +20,9 @@ class FileRow:
     python: str
     yanked: Optional[str]
     sha256: str
+
+
+Release = Tuple[str, List[FileRow]]
 
 
 @dataclass(frozen=True)
@@ -51,13 +55,15 @@ def find_contents(index: Index, name: str, is_fresh: bool = False) -> Optional[L
     return sorted(rows, key=lambda it: order(it.release), reverse=True)
 
 
+def releases_in(files: Sequence[FileRow]) -> List[Release]:
+    """The releases with their files, in the order in which the files come."""
+    return [(release, list(its)) for release, its in itertools.groupby(files, lambda it: it.release)]
+
+
 def releases_of(name: str, files: Sequence[FileRow]) -> List[ReleaseRow]:
-    """The releases of these files, in their order."""
-    found: Dict[str, List[FileRow]] = {}
-    for it in files:
-        found.setdefault(it.release, []).append(it)
+    """The same, each as a row."""
     return [ReleaseRow(name, release, [it.file for it in its], sum(it.size for it in its), its[0].yanked)
-            for release, its in found.items()]
+            for release, its in releases_in(files)]
 
 
 def yanked_text(row: Any) -> str:

@@ -5,10 +5,10 @@ import html
 import urllib.parse
 from typing import Iterator, List, Sequence, Tuple
 
-from indexctl.contents import FileRow
+from indexctl.contents import FileRow, Release
 from indexctl.page import kind_of, part_of_page, text_of
 from indexctl.site.about import About
-from indexctl.site.projects import Project, Release
+from indexctl.site.projects import Project
 from indexctl.standings import Case, Standing
 from indexctl.units import counted, human, moment
 from package_index.names import file_path

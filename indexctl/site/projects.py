@@ -1,18 +1,15 @@
 """What the pages say of a project: how its name stands, its releases, and what its newest wheel says."""
 from __future__ import annotations
 
-import itertools
 from dataclasses import dataclass
-from typing import Dict, List, Optional, Sequence, Tuple
+from typing import Dict, List, Optional, Sequence
 
-from indexctl.contents import FileRow, find_contents
+from indexctl.contents import FileRow, Release, find_contents, releases_in
 from indexctl.site.about import NOTHING, About, read_about
 from indexctl.standings import Standing, find_standing, listed_names, side_by_side
 from indexctl.transport import Index, Request
 from indexctl.versions import is_final, is_release
 from package_index.names import file_path
-
-Release = Tuple[str, List[FileRow]]
 
 
 @dataclass(frozen=True)
@@ -23,11 +20,6 @@ class Project:
     newest: str
     digest: str
     about: About
-
-
-def releases_in(files: Sequence[FileRow]) -> List[Release]:
-    """The releases with their files, in the order in which the files come."""
-    return [(release, list(its)) for release, its in itertools.groupby(files, lambda it: it.release)]
 
 
 def newest_of(releases: Sequence[Release]) -> str:
