@@ -8,8 +8,7 @@ from typing import Dict, List, Optional, Sequence
 from indexctl.changes import Desk
 from indexctl.command_line import argument, command
 from indexctl.commands.arguments import FILES, NAME, RELEASE, YES
-from indexctl.commands.cached import tell_uncache
-from indexctl.commands.names import change_name
+from indexctl.commands.names import change_name, tell_uncache
 from indexctl.contents import FileRow, find_contents, releases_of
 from indexctl.ends import WRONG, Stop
 from indexctl.names import check_names, check_texts, project_of

@@ -2,14 +2,14 @@
 from __future__ import annotations
 
 import argparse
+from typing import Sequence
 
 from indexctl.changes import Desk
 from indexctl.command_line import command
 from indexctl.commands.arguments import NAME, NAMES, USER, YES
-from indexctl.commands.cached import tell_uncache
 from indexctl.names import check_names, check_users
 from indexctl.standings import find_files, find_standing
-from indexctl.terminal import confirm, confirm_on_terminal
+from indexctl.terminal import confirm, confirm_on_terminal, note, say
 from indexctl.transport import Index
 from indexctl.units import counted
 from package_index.names import normal
@@ -30,6 +30,14 @@ def change_name(args: argparse.Namespace, what: str, do: str, **row: object) -> 
     desk = Desk(args)
     desk.change_by(what, {"do": do, "name": args.name, **row})
     return desk.status()
+
+
+def tell_uncache(project: str, files: Sequence[str]) -> None:
+    """Prints the commands that take these files out of what nginx has cached."""
+    if files:
+        note("On the server, take out of nginx what it has cached:")
+    for file in files:
+        say(f"index-uncache {project} {file}")
 
 
 @command("name claim", "claims names that nobody holds", NAMES)
