@@ -3,14 +3,14 @@ from __future__ import annotations
 
 import argparse
 import json
-from contextlib import AbstractContextManager
+from contextlib import AbstractContextManager, nullcontext
 from dataclasses import replace
 from types import MappingProxyType
 from typing import Callable, Mapping, Optional, Tuple
 
 from indexctl.ends import REFUSED, WRONG, Stop
 from indexctl.names import project_of, sha256
-from indexctl.record import Record, no_record
+from indexctl.record import Record
 from indexctl.refusals import hint_of
 from indexctl.settings import find_setting
 from indexctl.terminal import note, say
@@ -49,7 +49,7 @@ class Desk:
     def room(self, line: Row, is_kept: bool) -> AbstractContextManager[Callable[[], None]]:
         """The room in the record for a line. A listing needs no record, nor does a request that can't be accepted."""
         if not is_kept or not self.setting.record:
-            return no_record()
+            return nullcontext(lambda: None)
         self.record = self.record or Record(self.setting.record)
         return self.record.room(line)
 

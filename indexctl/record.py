@@ -17,9 +17,7 @@ try:
     import fcntl
 except ImportError:
     # Windows has no locks of this kind: all but a record works there
-    HAS_LOCKS = False
-else:
-    HAS_LOCKS = True
+    fcntl = None  # type: ignore[assignment]
 
 
 class Record:
@@ -28,7 +26,7 @@ class Record:
 
     def __init__(self, path: str) -> None:
         self.path = path
-        if not HAS_LOCKS:
+        if not fcntl:
             raise Stop(WRONG, f"The record {path} can't be kept on this system, which has no locks for it. Unset it, "
                               "or run indexctl on Linux or macOS. Nothing was asked for.")
         try:
@@ -75,8 +73,3 @@ class Record:
             if not is_kept:
                 os.ftruncate(self.file, end)
             fcntl.flock(self.file, fcntl.LOCK_UN)
-
-
-@contextmanager
-def no_record() -> Iterator[Callable[[], None]]:
-    yield lambda: None

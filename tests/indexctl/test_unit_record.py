@@ -166,12 +166,7 @@ def test_a_record_is_not_given_to_other_programs(tmp_path):
 
 
 def test_a_system_without_locks_keeps_no_record(tmp_path, monkeypatch):
-    monkeypatch.setattr(records, "HAS_LOCKS", False)
+    monkeypatch.setattr(records, "fcntl", None)
     with pytest.raises(Stop, match="can't be kept on this system") as end:
         Record(str(tmp_path / "record"))
     assert end.value.status == WRONG and not (tmp_path / "record").exists()
-
-
-def test_without_a_record_nothing_is_kept():
-    with records.no_record() as keep:
-        keep()
