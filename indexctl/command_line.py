@@ -124,7 +124,7 @@ def parsers(commands: Sequence[Command]) -> Tuple[argparse.ArgumentParser, Dict[
         noun, _, verb = it.path.rpartition(" ")
         if noun not in nouns:
             verbs = [other for other in commands if other.path.startswith(f"{noun} ")]
-            summary = f"{', '.join(other.path.split()[1] for other in verbs)}"
+            summary = ", ".join(other.path.split()[1] for other in verbs)
             group = nouns[""].add_parser(noun, help=summary, description=f"indexctl {noun}: {summary}")
             nouns[noun] = group.add_subparsers(metavar="VERB", dest="verb", required=True)
         about = wrapped(f"{sentence(it.summary)}\n\n{more_text(it.function)}".strip())

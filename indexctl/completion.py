@@ -106,16 +106,18 @@ def read_line(words: Sequence[str]) -> Optional[Line]:
     return Line(given, words[-1], places[at].settings.get("metavar", ""), profile)
 
 
+def known_names(index: Index) -> List[str]:
+    return sorted({normal(it) for it in listed_names(index)})
+
+
 def names_that_begin(index: Index, line: Line) -> List[str]:
-    begin = re.sub("[-_.]+", "-", line.typed).lower()
-    return [it for it in sorted({normal(it) for it in listed_names(index)}) if it.startswith(begin)]
+    return [it for it in known_names(index) if it.startswith(normal(line.typed))]
 
 
 def files_that_begin(index: Index, line: Line) -> List[str]:
     """The files of the names that may be meant; if these are many, how their files begin."""
-    begin = re.sub("[-_.]+", "-", line.typed).lower()
-    names = sorted({normal(it) for it in listed_names(index)})
-    meant = [it for it in names if it.startswith(begin) or begin.startswith(f"{it}-")]
+    begin = normal(line.typed)
+    meant = [it for it in known_names(index) if it.startswith(begin) or begin.startswith(f"{it}-")]
     if len(meant) > MOST_PROJECTS:
         return [f"{it.replace('-', '_')}-" for it in meant]
     found = [it.file for name in meant for it in find_contents(index, name) or []]

@@ -17,13 +17,11 @@ def roff(text: str) -> str:
 
 
 def roff_body(text: str) -> List[str]:
-    """Paragraphs, of which those that are indented stand as they are."""
+    """Paragraphs, of which those that are indented, and lines of a file of settings, stand as they are."""
     parts: List[str] = []
     for part in re.split(r"\n\s*\n", text):
-        if part.startswith("    "):
+        if part.startswith(("    ", "[")):
             parts += [".PP", ".nf", *(roff(line.strip()) for line in part.split("\n")), ".fi"]
-        elif re.match(r"\[", part):
-            parts += [".PP", ".nf", *(roff(line) for line in part.split("\n")), ".fi"]
         elif part:
             parts += [".PP", roff(part)]
     return parts

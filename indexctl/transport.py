@@ -135,11 +135,9 @@ class Index:
             for name, value in {**self.headers, **dict(request.headers), "Content-Length": str(request.length)}.items():
                 connection.putheader(name, value)
             connection.endheaders()
-            try:
+            with suppress(BrokenPipeError, ConnectionResetError):
                 for piece in request.pieces() if request.pieces else ():
                     connection.send(piece)
-            except (BrokenPipeError, ConnectionResetError):
-                pass
             reply = connection.getresponse()
             return Reply(reply.status, reply.headers, reply.read())
         finally:
