@@ -7,6 +7,7 @@ from contextlib import closing
 
 import pytest
 from support.library import ends as library_ends
+from support.library import exchange
 from support.programs import program_of
 from support.sqlite_logs import summed
 from support.unit import calls, ends, raises
@@ -174,3 +175,10 @@ def test_a_pipe_in_the_place_of_its_folder_is_refused_at_once(tmp_path, monkeypa
     made = calls(monkeypatch, RESEAL, "make")
     status, _, err = ends(RESEAL, monkeypatch, capsys, "x", tmp_path / "new.db")
     assert (status, err) == (1, f"index-reseal: [Errno 20] Not a directory: '{tmp_path}/new.db.part'\n") and not made
+
+
+@pytest.mark.parametrize("end", [OSError(9, "a folder on NFS"), OSError(38, "no locks")])
+def test_a_folder_that_can_t_be_locked_takes_a_new_file_all_the_same(tmp_path, monkeypatch, capsys, end):
+    monkeypatch.setattr(exchange.fcntl, "flock", raises(end))
+    monkeypatch.setattr(RESEAL, "make", lambda db, new, part: open(new, "w").close())
+    assert ends(RESEAL, monkeypatch, capsys, "x", tmp_path / "new.db")[0] == 0

@@ -19,7 +19,7 @@ UNFINISHED = "unfinished"
 @contextmanager
 def alone(folder: str, name: str) -> Iterator[None]:
     """Refuses if a program of this name is at work in the folder: each would take away what the other copied."""
-    opened = os.open(folder, os.O_RDONLY)
+    opened = os.open(folder, os.O_RDONLY | os.O_DIRECTORY)
     try:
         try:
             fcntl.flock(opened, fcntl.LOCK_EX | fcntl.LOCK_NB)
