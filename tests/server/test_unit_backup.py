@@ -205,8 +205,7 @@ def test_a_second_backup_at_the_same_time_is_refused_and_takes_no_part_away(tmp_
 @pytest.mark.parametrize("end", [OSError(9, "a folder on NFS"), OSError(38, "no locks")])
 def test_a_folder_that_can_t_be_locked_takes_copies_all_the_same(tmp_path, monkeypatch, end):
     monkeypatch.setattr(exchange.fcntl, "flock", raises(end))
-    calls(monkeypatch, BACKUP, "made_alone", "a line")
-    assert BACKUP.backup("db", str(tmp_path), 1, None) == "a line"
+    assert "8 bytes, copied in 0." in backed(tmp_path, monkeypatch)
 
 
 def test_the_words_of_a_backup(monkeypatch, capsys):
