@@ -61,9 +61,9 @@ class Follower:
 
     def done(self):
         """How many lines are before the place that is kept."""
-        end, place = 0, followed.place_in(f"{self.at}/place")
+        end, place = 0, followed.place_in(f"{self.at}/place", followed.Place)
         if self.other:
-            place = fronts.place_in(f"{self.at}/place")
+            place = followed.place_in(f"{self.at}/place", fronts.Place)
             return 1 + [sum(map(len, LINES[:it])) for it in range(len(LINES))].index(place.begin) if place else 0
         while place and end < len(LINES) and place.read >= sum(map(len, LINES[:end + 1])):
             end += 1

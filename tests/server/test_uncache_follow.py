@@ -108,7 +108,7 @@ def test_what_came_while_it_was_killed_is_taken_out_too_also_over_a_rotation(cac
         ban(cached, FILES[0])
         wait_until_gone(cached, FILES[0])
         end = os.stat(log).st_ino, os.path.getsize(log)
-        assert wait_for(lambda: (followed.place_in(f"{cached.folder}/place") or ())[:2] == end)
+        assert wait_for(lambda: (followed.place_in(f"{cached.folder}/place", followed.Place) or ())[:2] == end)
         runs.process.kill()
         runs.process.wait()
     ban(cached, FILES[1])
@@ -268,9 +268,10 @@ def test_a_place_that_is_gone_or_spoilt_has_all_logs_read(tmp_path):
         found.close()
         assert seen == lines
     (tmp_path / "place").write_text("x")
-    assert followed.place_in(f"{tmp_path}/place") is None and followed.place_in(f"{tmp_path}/none") is None
+    for name in ("place", "none"):
+        assert followed.place_in(f"{tmp_path}/{name}", followed.Place) is None
     followed.keep_place(f"{tmp_path}/place", at)
-    assert followed.place_in(f"{tmp_path}/place") == at
+    assert followed.place_in(f"{tmp_path}/place", followed.Place) == at
 
 
 def test_the_unit_keeps_its_place_and_tells():

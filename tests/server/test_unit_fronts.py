@@ -1,4 +1,5 @@
 """The list of what was removed through an nginx: its lines, the places in it, and what comes of it from another one."""
+import hashlib
 import http.client
 import socket
 import ssl
@@ -11,18 +12,18 @@ from support.unit import calls, with_time
 
 OTHER = front.Front("packages.example", 443, "192.0.2.2")
 LINES = b'{"at":1}\n{"at":2}\n{"at":3}\n'
-PLACES = [fronts.Place(at, fronts.digest_of(b'{"at":%d}' % number)) for number, at in ((1, 0), (2, 9), (3, 18))]
+PLACES = [fronts.Place(at, hashlib.sha256(line).hexdigest()) for at, line in zip((0, 9, 18), LINES.splitlines())]
 
 
 def test_a_place_is_kept_and_one_that_is_spoilt_is_none(tmp_path):
     path = str(tmp_path / "place")
-    assert fronts.place_in(path) is None
+    assert followed.place_in(path, fronts.Place) is None
     followed.keep_place(path, PLACES[1])
     # a number of bytes, as it is asked for
-    assert repr(fronts.place_in(path)) == repr(PLACES[1])
+    assert repr(followed.place_in(path, fronts.Place)) == repr(PLACES[1])
     for text in ("", "x y\n", "1\n", "1 2 3\n"):
         (tmp_path / "place").write_text(text)
-        assert fronts.place_in(path) is None
+        assert followed.place_in(path, fronts.Place) is None
 
 
 def test_a_line_is_whole_behind_one_that_a_full_disk_cut_off(tmp_path):

@@ -4,11 +4,12 @@ from __future__ import annotations
 import hashlib
 import os
 import time
-from typing import BinaryIO, Generator, Iterator, NamedTuple, Optional, Tuple
+from typing import BinaryIO, Callable, Generator, Iterator, NamedTuple, Optional, Tuple, TypeVar
 
 from package_index.changes import lines_of, rotated
 from package_index.disk import put_whole
 
+Kind = TypeVar("Kind")
 PAUSE = 0.2
 # of what was read, the last bytes by which a log is known again
 TAIL = 256
@@ -22,18 +23,18 @@ class Place(NamedTuple):
     digest: str
 
 
-def place_in(path: str) -> Optional[Place]:
-    """The place that was kept in a file; None if there is none, or none that can be read."""
+def place_in(path: str, kind: Callable[..., Kind]) -> Optional[Kind]:
+    """The place in a log, or in a list of another nginx, that was kept in a file; None if there is none, or none that
+    can be read."""
     try:
         with open(path, encoding="ascii") as kept:
-            inode, read, digest = kept.read().split()
-        return Place(int(inode), int(read), digest)
-    except (FileNotFoundError, ValueError):
+            *numbers, digest = kept.read().split()
+        return kind(*map(int, numbers), digest)
+    except (FileNotFoundError, ValueError, TypeError):
         return None
 
 
 def keep_place(path: str, place: Tuple[object, ...]) -> None:
-    """Also that of a list of another nginx."""
     put_whole(path, f"{' '.join(map(str, place))}\n")
 
 

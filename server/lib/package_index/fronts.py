@@ -27,16 +27,6 @@ class Place(NamedTuple):
     digest: str
 
 
-def place_in(path: str) -> Optional[Place]:
-    """The place that was kept in a file; None if there is none, or none that can be read."""
-    try:
-        with open(path, encoding="ascii") as kept:
-            begin, digest = kept.read().split()
-        return Place(int(begin), digest)
-    except (FileNotFoundError, ValueError):
-        return None
-
-
 def begin_list(path: str) -> None:
     """Makes an empty list if there is none."""
     with open(path, "ab"):
@@ -52,10 +42,6 @@ def add_line(path: str, line: str) -> None:
         kept.write(("" if is_whole else "\n").encode() + line.rstrip("\n").encode() + b"\n")
         kept.flush()
         os.fsync(kept.fileno())
-
-
-def digest_of(line: bytes) -> str:
-    return hashlib.sha256(line).hexdigest()
 
 
 def fetched(front: Front, begin: int, trust: ssl.SSLContext) -> bytes:
@@ -87,7 +73,7 @@ def lines_in(read: bytes, place: Optional[Place]) -> Optional[List[Tuple[str, Pl
     place is another one."""
     found, begin = [], place.begin if place else 0
     for line in read.split(b"\n")[:-1]:
-        found.append((line.decode("utf-8", "replace"), Place(begin, digest_of(line))))
+        found.append((line.decode("utf-8", "replace"), Place(begin, hashlib.sha256(line).hexdigest())))
         begin += len(line) + 1
     if not place:
         return found
