@@ -4,6 +4,7 @@ import http.server
 import os
 import socket
 import threading
+import types
 from contextlib import contextmanager
 
 import pytest
@@ -105,7 +106,8 @@ def test_the_words_of_a_look_and_its_status(monkeypatch, capsys):
 
 @pytest.mark.parametrize("least, status", [(6, 0), (7, 9)])
 def test_little_room_is_a_status_of_its_own(tmp_path, monkeypatch, least, status):
-    asked = calls(monkeypatch, HEALTH, "room_of", 7 * (1 << 20) - 1 if least == 7 else 6 << 20)
+    free = 7 * (1 << 20) - 1 if least == 7 else 6 << 20
+    asked = calls(monkeypatch, HEALTH.shutil, "disk_usage", types.SimpleNamespace(free=free))
     found = HEALTH.look_at_room(["/a", "/b"], least)
     said = "make room: /a has 6 MiB left, /b has 6 MiB left" if status else ""
     assert (found.status, found.seen) == (status, said) and set(asked) == {("/a",), ("/b",)}
@@ -113,7 +115,7 @@ def test_little_room_is_a_status_of_its_own(tmp_path, monkeypatch, least, status
 
 def test_a_folder_that_is_not_there_is_passed_over_and_one_that_can_not_be_looked_at_is_not(tmp_path, monkeypatch):
     assert HEALTH.look_at_room([f"{tmp_path}/none", tmp_path], 0) == WELL
-    monkeypatch.setattr(HEALTH, "room_of", raises(PermissionError(13, "denied")))
+    monkeypatch.setattr(HEALTH.shutil, "disk_usage", raises(PermissionError(13, "denied")))
     with pytest.raises(PermissionError):
         HEALTH.look_at_room(["/a"], 0)
 
@@ -155,7 +157,7 @@ KEYS = ("/files/frob/frob-1.0+x.tar.gz", "/files/frob/Frob-1.0-py3-none-any.whl"
 
 def test_a_key_stands_at_the_head_of_a_file_and_is_where_nginx_has_it(tmp_path):
     cache = Cache(tmp_path, *KEYS)
-    assert places.place(str(tmp_path), KEYS[0]) == str(cache.place(KEYS[0]))
+    assert places.place_of_file(str(tmp_path), "Frob", "frob-1.0+x.tar.gz") == str(cache.place(KEYS[0]))
     assert UNCACHE.key_of(str(cache.place(KEYS[0]))) == KEYS[0] and UNCACHE.key_of(f"{tmp_path}/none") == ""
     for data, key in ((b"no key", ""), (b"\nKEY: \xff\n", "\ufffd"), (bytes(4089) + b"\nKEY: a\n", "a"),
                       (bytes(4095) + b"\nKEY: a\n", "")):

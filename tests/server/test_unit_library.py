@@ -28,10 +28,10 @@ def test_a_tenth_or_64_mib_is_to_spare(written, needed):
 
 
 def test_bytes_are_written_where_there_is_just_the_room(tmp_path, monkeypatch):
-    free = types.SimpleNamespace(f_frsize=512, f_bavail=(disk.bytes_needed(1024)) // 512)
-    monkeypatch.setattr(disk.os, "statvfs", lambda folder: free if folder == str(tmp_path) else None)
+    free = types.SimpleNamespace(free=disk.bytes_needed(1024) // 512 * 512)
+    monkeypatch.setattr(disk.shutil, "disk_usage", lambda folder: free if folder == str(tmp_path) else None)
     disk.want_room(str(tmp_path), 1024)
-    free.f_bavail -= 1
+    free.free -= 512
     for advice, words in (("make room first", ()), ("make some", ("make some",))):
         with pytest.raises(ends.Refused) as refused:
             disk.want_room(str(tmp_path), 1024, *words)

@@ -2,6 +2,7 @@
 from __future__ import annotations
 
 import os
+import shutil
 from typing import Optional
 
 from package_index.commands import run
@@ -16,15 +17,9 @@ def bytes_needed(written: int) -> int:
     return written + max(written // 10, SPARE)
 
 
-def room_of(folder: str) -> int:
-    """The bytes that are free on the disk of a folder."""
-    disk = os.statvfs(folder)
-    return disk.f_bavail * disk.f_frsize
-
-
 def want_room(folder: str, written: int, advice: str = "make room first") -> None:
     """Refuses if writing so many bytes into this folder might fill its disk. Uploads fail if the database is there."""
-    free = room_of(folder)
+    free = shutil.disk_usage(folder).free
     if free < bytes_needed(written):
         raise Refused(f"{folder} has room for {free} bytes, and this needs {bytes_needed(written)}: {advice}")
 
