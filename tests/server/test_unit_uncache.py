@@ -42,7 +42,7 @@ def test_a_key_is_the_second_line_of_the_head_and_a_file_that_is_gone_has_none(t
 
 def test_what_is_taken_out_and_what_is_not_there_is_told(tmp_path, monkeypatch, capsys):
     for name in ("frob-1.0.whl", "frob-2.0.whl"):
-        path = places.place(str(tmp_path), f"/files/frob/{name}")
+        path = places.place_of_file(str(tmp_path), "frob", name)
         os.makedirs(os.path.dirname(path))
         with open(path, "wb") as kept:
             kept.write(f"\nKEY: /files/frob/{name}\n".encode())

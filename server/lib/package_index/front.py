@@ -73,7 +73,7 @@ def fault_of_answer(front: Front, patience: float) -> str:
     return "" if status in ANSWERS else f"nginx answers https://{front.host}/health by {status}"
 
 
-def fault_of_certificate(front: Front, patience: float, days: float = 0) -> str:
+def fault_of_certificate(front: Front, patience: float, days: float) -> str:
     """What is wrong with the certificate that nginx shows for its name, or nothing: another name, or an end within so
     many days. Who signed it is not asked, since that may be an authority of your own."""
     with connect(front, believing(), patience) as shown:

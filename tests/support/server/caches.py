@@ -15,7 +15,7 @@ def make_cache(at: str, files: Iterable[tuple[str, str]]) -> str:
     """A folder in which nginx keeps these files, each of a project."""
     for project, file in files:
         key = f"/files/{project}/{file}"
-        path = cache.place(at, key)
+        path = cache.place_of_file(at, project, file)
         os.makedirs(os.path.dirname(path), exist_ok=True)
         with open(path, "w", encoding="ascii") as made:
             made.write(f"head\nKEY: {key}\nbytes")
