@@ -8,7 +8,7 @@ from support.ports import free_port
 from support.server.compressed import differences
 from support.server.expected import assert_reply
 from support.server.front import Front, kept, replaced
-from support.serving import JSON_PAGE, Index, accepted
+from support.serving import JSON_PAGE, Index, accepted, sha256
 
 # a name of each index as its owner writes it, the letters at the bounds, and figures
 NAMES = {"Frob": 0, "Ham": 1, "X-ray": 2, "frob": 0, "ham": 1, "x-ray": 2, "0ad": 0, "9base": 0, "Arc": 0, "F": 0,
@@ -59,6 +59,27 @@ def test_each_first_letter_in_both_cases_leads_to_its_index(indexes, shards, loo
         looked(b'"held"' in indexes[at].ask("GET", f"/names/{name}")[2], name, at)
         reply = shards.ask("GET", f"/names/{name}")
         looked(reply[0] == 200 and b'"held"' in reply[2], name, reply[0], reply[2])
+
+
+def test_the_header_of_a_name_leads_no_file_nor_page_of_it_to_another_index(indexes, shards):
+    """nginx keeps files by their paths: under one name of two indexes it would keep either's."""
+    accepted(claim(shards, "frob"))
+    accepted(indexes[2].claim("frob"))
+    accepted(shards.upload("frob", "frob-1.0.tar.gz", b"ours"))
+    accepted(indexes[2].upload("frob", "frob-1.0.tar.gz", b"of another index"))
+    for path in ("/files/%66rob/frob-1.0.tar.gz", "/files/frob/frob-1.0.tar.gz"):
+        assert_reply(shards.ask("GET", path, X_Index_Name="x"), 200, None, b"ours")
+    page = shards.ask("GET", "/simple/%66rob/", X_Index_Name="x")
+    assert_reply(page, 200, None, sha256(b"ours").encode())
+    headers = {"X_Index_Token": "office", "X_Index_SHA256": sha256(b"2"), "X_Index_Name": "x"}
+    accepted(shards.ask("PUT", "/files/%66rob/frob-2.0.tar.gz", b"2", **headers))
+    assert_reply(indexes[0].ask("GET", "/files/frob/frob-2.0.tar.gz"), 200, None, b"2")
+
+
+@pytest.mark.parametrize("path", ["/simple/", "/names/", "/simple/-/", "/files/"])
+def test_the_header_of_a_name_leads_no_path_without_one_to_an_index(path, shards):
+    """The list of all names would be that of the index which somebody else named just now."""
+    assert_reply(shards.ask("GET", path, X_Index_Name="x"), 404, "application/json", b"NoIndexName")
 
 
 def test_a_post_without_a_name_is_refused(shards):
