@@ -6,6 +6,7 @@ import re
 
 import pytest
 from support.running import run_command
+from support.server.expected import assert_reply
 from support.server.front import Front, kept
 from support.server.gone import ask_and_go
 from support.server.waits import wait_for
@@ -68,6 +69,17 @@ def test_a_long_body_is_in_the_log(front):
     front.ask("POST", "/requests", body, X_Index_Token="office")
     last = logged(front, 1)[-1]
     assert last["body"] == body, (last["status"], len(last["body"]))
+
+
+@pytest.mark.parametrize("pieces", [[b'{"do":"claim",', b'"name":"chunked"}'],
+                                    [bytes([it]) for it in b'{"do":"claim","name":"chunked"}' + b" " * 12_000]],
+                         ids=["few", "many"])
+def test_a_body_in_chunks_that_could_be_left_out_of_the_log_is_refused(front, pieces):
+    """nginx puts chunks that take more than its memory of a body into a file, and a file is not logged."""
+    sent = front.ask("POST", "/requests", iter(pieces), X_Index_Token="office")
+    assert_reply(sent, 411, "application/json", b'"NoLength"')
+    assert b'"free"' in front.ask("GET", "/names/chunked")[2]
+    assert logged(front, 1)[-1]["status"] == 411
 
 
 class TestReader:
