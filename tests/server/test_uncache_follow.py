@@ -215,6 +215,23 @@ def test_a_change_without_an_answer_is_taken_out_if_an_index_got_it(status, more
     assert FOLLOW.removed_by(line) == (["a", "a-1.zip"] if is_gone else [])
 
 
+@pytest.mark.parametrize("body", [
+    '{"do":"prohibit","name":"a/b"}', '{"do":"prohibit","name":7}', '{"do":"prohibit","name":["a"]}',
+    r'{"do":"prohibit","name":"\u0000"}', r'{"do":"ban_file","file":"a\ud800-1.tar.gz"}',
+    pytest.param("[" * 65_536, id="deep"), '{"do":"ban_file","file":"a/b-1.tar.gz"}', '{"do":"prohibit","name":""}', "7",
+    '{"do":"prohibit","name":null}'])
+def test_a_body_that_is_no_request_takes_nothing_out_and_ends_nothing(body):
+    """Anybody may send one while the index ends, which is a line that the index got and did not answer."""
+    line = json.dumps({"status": 502, "reached": True, "method": "POST", "path": "/requests", "body": body})
+    assert FOLLOW.removed_by(line) == []
+
+
+@pytest.mark.parametrize("path", ["/files/a%2Fb/a-1.zip", "/files/a/%00", "/a%0A/b", "/"])
+def test_a_path_of_no_file_takes_nothing_out(path):
+    line = json.dumps({"status": 502, "reached": True, "method": "DELETE", "path": path, "body": ""})
+    assert FOLLOW.removed_by(line) == []
+
+
 def test_a_line_that_can_not_be_read_is_told_without_a_body(capsys):
     """It may have said what is to go out, and has the digest of a token."""
     line = json.dumps({"at": "x", "status": 200, "method": "POST", "path": "/requests" + "x" * 99, "body": "digest"})
