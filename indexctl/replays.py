@@ -18,8 +18,8 @@ from package_index.names import normal
 OFFICE_ASKS = ("add_user", "set_token", "set_quota", "prohibit", "allow", "ban_file", "record_attempt", "transfer",
                "close_case")
 FILE_ASKS = ("upload", "delete", "ban_file")
-# uploads by twine and its like come here, and the log does not have the name of the file
-BRIDGE = "/legacy"
+# the one address at which the index takes a POST; any other is of an upload by twine or its like
+REQUESTS = "/requests"
 
 
 @dataclass(frozen=True)
@@ -43,7 +43,8 @@ class Line:
 
 def logged_row(found: Dict[str, Any]) -> Dict[str, Any]:
     """What a line of nginx's log of changes asked for, or nothing if it does not say that."""
-    if found.get("method") == "POST" and str(found.get("path", "")).startswith(BRIDGE):
+    if found.get("method") == "POST" and found.get("path", REQUESTS) != REQUESTS:
+        # the log does not have the name of the file
         return {"do": "upload", "file": ""}
     file = urllib.parse.unquote(str(found.get("path", "")).rsplit("/", 1)[-1])
     if found.get("method") in ("PUT", "DELETE"):
@@ -74,7 +75,10 @@ def read_line(number: int, text: str) -> Optional[Line]:
     else:
         return None
     if not isinstance(row.get("do"), str) or row["do"] in FILE_ASKS and not isinstance(row.get("file"), str):
-        raise Stop(WRONG, f"Line {number} does not say what was asked for: {text[:100]!r}. Use a copy without it.")
+        if not unanswered:
+            raise Stop(WRONG, f"Line {number} does not say what was asked for: {text[:100]!r}. Use a copy without it.")
+        # anybody may send such a body, and no index takes it
+        row = {"do": ""}
     return Line(number, at, caller, index, row, again, unanswered)
 
 

@@ -64,6 +64,20 @@ def test_an_upload_by_twine_in_nginx_s_log_has_no_file(path):
     assert replays.why_left(found, URL, ME, True).startswith("it is an upload by twine or its like")
 
 
+@pytest.mark.parametrize("path", ["//legacy/", "/legacy%2F", "/x/../legacy/"])
+def test_an_upload_by_twine_is_known_by_any_address_that_nginx_takes_for_it(path):
+    """An address with a slash too much, say: the line of one owner would end the replay of all."""
+    assert replays.read_line(1, logged(method="POST", path=path, body="")).row == {"do": "upload", "file": ""}
+
+
+@pytest.mark.parametrize("body", ["", "x", "[]", "[" * 9_999, '{"do":7}', '{"do":"ban_file","file":7}', '{"name":"a"}'],
+                         ids=lambda it: it[:20])
+def test_a_body_of_anybody_that_the_index_did_not_answer_ends_no_replay(body):
+    found = replays.read_line(1, logged(method="POST", path="/requests", body=body, status=502, reached=True))
+    assert (found.row, found.unanswered) == ({"do": ""}, 502)
+    assert replays.why_left(found, URL, ME, True).startswith("nginx answered it by 502, and the index may")
+
+
 def test_a_line_of_a_replay_says_when_it_was_asked_for_first():
     text = json.dumps({"at": "1970-01-01T00:00:20Z", "again": "1970-01-01T00:00:10Z", "do": "x"})
     found = replays.read_line(1, text)
