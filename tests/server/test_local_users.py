@@ -14,15 +14,37 @@ until ss -Hltn "sport = :$3" | grep -q .; do sleep 0.1; done
 setpriv --reuid "$2" --clear-groups curl -sS -o /dev/null -w '%{http_code}' "http://127.0.0.1:$3/"; status=$?
 kill $server
 exit $status"""
+# as a user, somebody listens at this port and prints what comes; nginx' user asks
+ANSWERS = """ip link set lo up && nft -f "$1" || exit 9
+setpriv --reuid "$2" --clear-groups /usr/bin/python3 -S -c '
+import socket, sys
+print(socket.create_server(("127.0.0.1", int(sys.argv[1]))).accept()[0].recv(1000))' "$3" & server=$!
+until ss -Hltn "sport = :$3" | grep -q .; do sleep 0.1; done
+setpriv --reuid 33 --clear-groups curl -sS -m 1 -H "X-Index-Token: token" "http://127.0.0.1:$3/"
+kill $server
+exit 0"""
+
+
+def run_alone(script, *words):
+    want_command("nft", "nftables")
+    if run_command(["unshare", "--net", "nft", "add", "table", "inet", "x"]).returncode:
+        pytest.skip("this machine lets nobody make a network of its own")
+    return run_command(["unshare", "--net", "sh", "-c", script, "sh", RULES, *map(str, words)])
 
 
 @pytest.mark.parametrize("user, port, is_let_in", [
     (0, 8080, True), (33, 8080, True), (999, 8080, True), (61_184, 8080, True), (1_000, 8080, False),
-    (59_999, 8080, False), (1_000, 8079, False), (1_000, 8090, False), (1_000, 8443, True)])
+    (59_999, 8080, False), (1_000, 8079, False), (1_000, 8090, False), (1_000, 8443, True), (65_534, 8080, True),
+    (65_536, 8080, False), (100_000, 8080, False), (1_234_500_000, 8080, False)])
 def test_people_are_kept_from_the_ports_of_the_index(user, port, is_let_in):
-    want_command("nft", "nftables")
-    alone = ["unshare", "--net", "sh", "-c", ASKS, "sh", RULES, str(user), str(port)]
-    if run_command(["unshare", "--net", "nft", "add", "table", "inet", "x"]).returncode:
-        pytest.skip("this machine lets nobody make a network of its own")
-    ended = run_command(alone)
+    """Also those of a directory, and those that a person is in a container."""
+    ended = run_alone(ASKS, user, port)
     assert (ended.returncode, "200" in ended.stdout) == ((0, True) if is_let_in else (7, False)), ended.stdout
+
+
+@pytest.mark.parametrize("user, port, is_heard", [
+    (999, 8080, True), (61_184, 8090, True), (1_000, 8080, False), (100_000, 8090, False), (1_000, 8443, True)])
+def test_no_person_answers_at_a_port_of_the_index_in_its_place(user, port, is_heard):
+    """As while it starts again: nginx would give them the tokens that come."""
+    ended = run_alone(ANSWERS, user, port)
+    assert ("token" in ended.stdout) == is_heard, ended.stdout
