@@ -13,7 +13,7 @@ from indexctl.ends import REFUSED, WRONG, Stop
 from indexctl.terminal import Progress
 from indexctl.transport import JSON_PAGE, Index, Request, foreign, object_of
 from package_index.hints import hint
-from package_index.names import normal
+from package_index.names import is_name, normal
 
 Item = TypeVar("Item")
 Result = TypeVar("Result")
@@ -63,7 +63,8 @@ def is_number(value: object, most: int = MOST_NUMBER) -> bool:
 
 def is_standing(found: Dict[str, Any]) -> bool:
     """Whether an object is the standing of a name, whole, so that what reads it needn't look again."""
-    if not isinstance(found.get("name"), str) or found.get("state") not in ("free", "prohibited", "held"):
+    name = found.get("name")
+    if not isinstance(name, str) or not is_name(name) or found.get("state") not in ("free", "prohibited", "held"):
         return False
     if found["state"] != "held":
         return True

@@ -20,9 +20,9 @@ def test_a_number_is_whole_and_not_too_large(value, is_number):
 
 
 @pytest.mark.parametrize("changed", [
-    {"name": 1}, {"name": None}, {"state": "sold"}, {"state": None}, {"shown": None}, {"owners": "ann"},
-    {"owners": ["ann", 1]}, {"owners": None}, {"quota": None}, {"quota": -1}, {"charge": "3"}, {"charge": MOST + 1},
-    {"case": []}, {"case": {}}, {"case": 1}])
+    {"name": 1}, {"name": None}, {"name": ""}, {"name": "../a"}, {"name": "a/b"}, {"name": "a\n"}, {"state": "sold"},
+    {"state": None}, {"shown": None}, {"owners": "ann"}, {"owners": ["ann", 1]}, {"owners": None},
+    {"quota": None}, {"quota": -1}, {"charge": "3"}, {"charge": MOST + 1}, {"case": []}, {"case": {}}, {"case": 1}])
 def test_a_standing_is_whole_or_none(changed):
     assert standings.is_standing(HELD) and not standings.is_standing({**HELD, **changed})
 
