@@ -18,7 +18,8 @@ exit $status"""
 ANSWERS = """ip link set lo up && nft -f "$1" || exit 9
 setpriv --reuid "$2" --clear-groups /usr/bin/python3 -S -c '
 import socket, sys
-print(socket.create_server(("127.0.0.1", int(sys.argv[1]))).accept()[0].recv(1000))' "$3" & server=$!
+peer = socket.create_server(("127.0.0.1", int(sys.argv[1]))).accept()[0]
+print(peer.recv(1000), flush=True)' "$3" & server=$!
 until ss -Hltn "sport = :$3" | grep -q .; do sleep 0.1; done
 setpriv --reuid 33 --clear-groups curl -sS -m 1 -H "X-Index-Token: token" "http://127.0.0.1:$3/"
 kill $server
