@@ -1,5 +1,7 @@
 """index-alarm writes to the journal, and sends one mail an hour for each unit."""
 import os
+import re
+import time
 
 import pytest
 from support.places import BIN, SERVER
@@ -21,9 +23,9 @@ def alarm(bin_folder, folder):
     """Runs index-alarm for a unit. What is mailed is added to the file `mail`."""
     path = stand_ins(bin_folder, logger="", systemctl="echo the last lines", sendmail=f'cat >> "{folder}/mail"')
 
-    def run(*words, **setting):
+    def run(*words, of="index-backup.service", **setting):
         setting = {"PATH": path, "RUNTIME_DIRECTORY": folder, **setting}
-        return run_command([f"{BIN}/index-alarm", *words, "index-backup.service"], **setting)
+        return run_command([f"{BIN}/index-alarm", *words, of], **setting)
     return run
 
 
@@ -46,6 +48,24 @@ def test_one_mail_goes_out_for_two_alarms_in_an_hour(alarm, folder):
     assert mail.count("To:") == 1, mail
 
 
+def test_a_mail_of_a_clock_that_was_ahead_holds_up_no_other(alarm, folder):
+    assert_ends(alarm("--mail", ALARM_MAIL=YOU), 0)
+    os.utime(f"{folder}/index-backup.service", (time.time() + 86_400,) * 2)
+    assert_ends(alarm("--mail", ALARM_MAIL=YOU), 0)
+    assert written(f"{folder}/mail").count("To:") == 2
+
+
+def test_each_alarm_of_index_alarms_is_a_mail_and_not_each_end_of_it(alarm, folder):
+    """It tells each once a day, and ends with status 9 then."""
+    for status, mails in ((9, 1), (9, 2), (1, 2)):
+        assert_ends(alarm("--mail", of="index-alarms.service", ALARM_MAIL=YOU, MONITOR_EXIT_STATUS=str(status)), 0)
+        assert written(f"{folder}/mail").count("To:") == mails, status
+    for mails in (3, 3):
+        # status 9 of another is that of a disk, each minute
+        assert_ends(alarm("--mail", of="index-health.service", ALARM_MAIL=YOU, MONITOR_EXIT_STATUS="9"), 0)
+        assert written(f"{folder}/mail").count("To:") == mails
+
+
 def test_a_mail_that_did_not_go_out_fails_and_goes_out_at_the_next_alarm(alarm, folder):
     broken = f"{stand_ins(f'{folder}/broken', sendmail='exit 1', systemctl='')}"
     assert_ends(alarm("--mail", ALARM_MAIL=YOU, PATH=broken), 1)
@@ -58,3 +78,11 @@ def test_each_unit_that_fails_is_told():
              if name.endswith(".service") and not name.startswith("index-alarm")]
     assert len(names) > 3
     assert [name for name in names if "\nOnFailure=index-alarm@%n.service\n" not in unit(name)] == []
+
+
+@pytest.mark.parametrize("name, minutes", [("index-alarm@.service", 5), ("index-health.service", 15)])
+def test_what_tells_is_ended_if_it_hangs(name, minutes):
+    """As by a sendmail or a disk that never answers: nothing is told until it ends, and systemd has no bound for a unit
+    that runs once."""
+    bound = re.search(r"^TimeoutStartSec=(\d+)min$", unit(name), re.M)
+    assert bound and 0 < int(bound[1]) <= minutes, bound
