@@ -241,6 +241,11 @@ def test_copies_on_another_disk_are_found_where_they_were(life):
     assert life.moved["found"][0] == "/mnt/backups/index" and life.moved["there"] <= set(life.moved["found"])
 
 
+def test_an_upgrade_does_not_want_the_disk_of_the_copies(life):
+    assert_ends(life.moved["off"], 0, "Setting up package-index (1)")
+    assert life.moved["on"] == life.moved["found"]
+
+
 def test_a_database_is_shrunk_and_has_what_it_had(life):
     assert_ends(life.several["shrunk"], 0)
     assert 0 < life.several["after"] < life.several["before"] - 900_000 and "before" in life.several["held"]

@@ -195,6 +195,9 @@ class Life:
         root.sh("mkdir -p /mnt/backups; mount -t tmpfs -o size=8k none /mnt/backups\n" + moves + "umount /mnt/backups")
         seen["left"] = root.sh(shown).stdout.split()
         seen["ended"], seen["found"] = root.sh(moves), root.sh(shown).stdout.split()
+        # the disk is off
+        seen["off"] = root.sh(f"mv /mnt/backups /mnt/off; dpkg --install {self.first}")
+        seen["on"] = root.sh(f"mv /mnt/off /mnt/backups; {shown}").stdout.split()
         return seen
 
     def size(self) -> int:
