@@ -6,7 +6,7 @@ import types
 
 import pytest
 from support.library import ends as library_ends
-from support.library import exchange
+from support.library import disk, exchange
 from support.places import TOP
 from support.programs import program_of
 from support.unit import calls, ends, raises, with_time
@@ -136,7 +136,7 @@ def test_a_copy_is_on_the_disk_before_an_old_one_goes(tmp_path, monkeypatch):
     os.mkdir(tmp_path / "copies")
     (tmp_path / "copies" / "index-20250101T000000Z.db").touch()
     there = []
-    monkeypatch.setattr(BACKUP, "sync", lambda folder: there.append(sorted(os.listdir(folder))))
+    monkeypatch.setattr(disk, "sync", lambda it: os.path.isdir(it) and there.append(sorted(os.listdir(it))))
     backed(tmp_path, monkeypatch, 1)
     assert there == [["index-20250101T000000Z.db", "index-20260102T030405Z.db"]]
 

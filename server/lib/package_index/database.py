@@ -8,6 +8,7 @@ import re
 import struct
 from typing import BinaryIO, Optional, Sequence, Tuple
 
+from package_index.disk import is_there
 from package_index.ends import Refused
 
 # the database, its log, and what else SQLite may leave beside it
@@ -19,7 +20,7 @@ COPY = re.compile(r"index-(\d{8}T\d{6})Z\.db")
 
 def size_of(db: str, ends: Sequence[str]) -> int:
     """The bytes of those files of a database that are there. An end that is named twice counts twice."""
-    return sum(os.path.getsize(db + end) for end in ends if os.path.exists(db + end))
+    return sum(os.path.getsize(db + end) for end in ends if is_there(db + end))
 
 
 def lock(database: BinaryIO, advice: str = "stop that first") -> None:
@@ -49,3 +50,8 @@ def moment_of(copy: str) -> Optional[datetime.datetime]:
     """When a copy was begun, by its name; None if it has another name."""
     found = COPY.fullmatch(os.path.basename(copy))
     return datetime.datetime.strptime(f"{found[1]}+0000", "%Y%m%dT%H%M%S%z") if found else None
+
+
+def begun_at(copy: str) -> datetime.datetime:
+    """When a copy was begun, by its name, or else when it was written."""
+    return moment_of(copy) or datetime.datetime.fromtimestamp(os.path.getmtime(copy), datetime.timezone.utc)

@@ -1,6 +1,7 @@
 """Files on the disk: whether there is room for them, copies, and that they are there after a loss of power."""
 from __future__ import annotations
 
+import errno
 import os
 import shutil
 from typing import Optional
@@ -24,13 +25,37 @@ def want_room(folder: str, written: int, advice: str = "make room first") -> Non
         raise Refused(f"{folder} has room for {free} bytes, and this needs {bytes_needed(written)}: {advice}")
 
 
+def is_there(path: str) -> bool:
+    """Whether there is a file of this name. A disk that can't tell is an OSError: os.path.exists calls all absent that
+    can't be read."""
+    try:
+        os.stat(path)
+    except (FileNotFoundError, NotADirectoryError):
+        return False
+    return True
+
+
 def sync(path: str) -> None:
     """Waits until a file, or the names in a folder, are on the disk."""
     opened = os.open(path, os.O_RDONLY)
     try:
         os.fsync(opened)
+    except OSError as end:
+        # so answers a file system that syncs no folder
+        if end.errno != errno.EINVAL:
+            raise
     finally:
         os.close(opened)
+
+
+def put_there(made: str, path: str) -> None:
+    """Gives a file this name for good. If the disk can't keep that, it has none."""
+    os.replace(made, path)
+    try:
+        sync(os.path.dirname(path))
+    except OSError:
+        os.remove(path)
+        raise
 
 
 def put_whole(path: str, text: str, mode: Optional[int] = None) -> None:

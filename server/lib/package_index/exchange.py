@@ -9,7 +9,7 @@ from contextlib import contextmanager, suppress
 from typing import Iterator
 
 from package_index.database import ENDS
-from package_index.disk import sync
+from package_index.disk import is_there, sync
 from package_index.ends import Refused
 
 # the file with the note
@@ -37,7 +37,7 @@ def exchange(db: str, made: str, aside: str, note: str) -> None:
     """Moves the database and its log aside and the copy into their place. The old files have both names before they
     lose one, and the database goes first: without it no program starts, and none takes a database without its log for a
     whole one. If it fails, they have their names again. The note stands beside them until somebody removes it."""
-    there = [end for end in ENDS if os.path.exists(db + end)]
+    there = [end for end in ENDS if is_there(db + end)]
     os.mkdir(aside, 0o700)
     try:
         with open(f"{aside}/{UNFINISHED}", "w") as kept:
@@ -56,11 +56,11 @@ def exchange(db: str, made: str, aside: str, note: str) -> None:
 
 def put_names_back(db: str, aside: str) -> bool:
     """Undoes an exchange whose copy is not in place, the database last. It does nothing if another one is in place."""
-    names = {db + end: f"{aside}/index.db{end}" for end in reversed(ENDS) if os.path.exists(f"{aside}/index.db{end}")}
-    if any(os.path.exists(it) and not os.path.samefile(it, names[it]) for it in names):
+    names = {db + end: f"{aside}/index.db{end}" for end in reversed(ENDS) if is_there(f"{aside}/index.db{end}")}
+    if any(is_there(it) and not os.path.samefile(it, names[it]) for it in names):
         return False
     for it in names:
-        if not os.path.exists(it):
+        if not is_there(it):
             os.link(names[it], it)
     with suppress(OSError):
         sync(os.path.dirname(db))
