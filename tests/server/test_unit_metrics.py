@@ -39,7 +39,10 @@ def test_the_sizes_of_files_and_the_age_of_the_newest_copy(tmp_path):
     db, backups = tmp_path / "a[b]" / "index.db", tmp_path / "backups"
     for folder in (db.parent, backups, db.parent / "damaged-1", db.parent / "damaged-2"):
         folder.mkdir()
-    assert told(METRICS.files(str(db), str(tmp_path / "none"))) == {"index_damaged_logs": 2}
+    # a folder on a disk that is off: an alarm asks for its newest copy
+    assert told(METRICS.files(str(db), str(tmp_path / "none"))) == {
+        "index_damaged_logs": 2, "index_backups": 0, "index_backups_bytes": 0, "index_backup_newest_seconds": 0,
+        "index_backup_parts": 0}
     for path, length, at in ((db, 7, 1), (f"{db}-wal", 9, 1), (backups / "index-1.db", 10, 2000),
                              (backups / "index-2.db", 20, 1000), (backups / "index-3.part", 40, 3000),
                              (backups / "x.part", 100, 3000)):
@@ -52,6 +55,17 @@ def test_the_sizes_of_files_and_the_age_of_the_newest_copy(tmp_path):
     for name in os.listdir(backups):
         os.remove(backups / name)
     assert told(METRICS.files(str(db), str(backups)))["index_backup_newest_seconds"] == 0
+
+
+@pytest.mark.parametrize("name, written, at", [
+    ("index-19700101T010000Z.db", 9_000, 3_600), ("index-19700101T030000Z.db", 9_000, 9_000),
+    ("index-1.db", 9_000, 9_000), ("index-1.db", 9_000.5, 1_000), ("index-20360101T000000Z.db", 9_001, 1_000)])
+def test_the_newest_copy_is_of_no_clock_that_was_ahead_and_of_no_later_touch(tmp_path, monkeypatch, name, written, at):
+    for path, moment in ((name, written), ("index-19700101T001640Z.db", 1_000)):
+        (tmp_path / path).touch()
+        os.utime(tmp_path / path, (moment, moment))
+    with_time(monkeypatch, METRICS, time=lambda: 9_000)
+    assert told(METRICS.files("/none", str(tmp_path)))["index_backup_newest_seconds"] == at
 
 
 def test_the_room_of_folders_that_are_there(tmp_path, monkeypatch):
