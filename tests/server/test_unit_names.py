@@ -86,7 +86,10 @@ def test_what_is_no_file_name(file):
 @pytest.mark.parametrize("copy, moment", [
     ("/x/index-20260102T030405Z.db", "2026-01-02T03:04:05+00:00"),
     ("index-20260102T030405Z.db", "2026-01-02T03:04:05+00:00"),
-    ("index-20260102T030405Z.dbx", None), ("xindex-20260102T030405Z.db", None), ("copy.db", None)])
+    ("index-20260102T030405Z.dbx", None), ("xindex-20260102T030405Z.db", None), ("copy.db", None),
+    # as a person may name one whose clock was wrong
+    ("index-20261131T031500Z.db", None), ("index-20270229T031500Z.db", None), ("index-20260102T243000Z.db", None),
+    ("index-20280229T031500Z.db", "2028-02-29T03:15:00+00:00"), ("index-00000000T000000Z.db", None)])
 def test_a_copy_tells_its_moment_by_its_name(copy, moment):
     found = database.moment_of(copy)
     assert (found and found.isoformat()) == moment

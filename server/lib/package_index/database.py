@@ -47,9 +47,12 @@ def copy_name(moment: datetime.datetime) -> str:
 
 
 def moment_of(copy: str) -> Optional[datetime.datetime]:
-    """When a copy was begun, by its name; None if it has another name."""
+    """When a copy was begun, by its name; None if it has another name, or one of a day that never is."""
     found = COPY.fullmatch(os.path.basename(copy))
-    return datetime.datetime.strptime(f"{found[1]}+0000", "%Y%m%dT%H%M%S%z") if found else None
+    try:
+        return datetime.datetime.strptime(f"{found[1]}+0000", "%Y%m%dT%H%M%S%z") if found else None
+    except ValueError:
+        return None
 
 
 def begun_at(copy: str) -> datetime.datetime:
