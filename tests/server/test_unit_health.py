@@ -120,6 +120,16 @@ def test_a_folder_that_is_not_there_is_passed_over_and_one_that_can_not_be_looke
         HEALTH.look_at_room(["/a"], 0)
 
 
+@pytest.mark.parametrize("bound, left, status", [(5_000, 999, 9), (5_000, 1_000, 0), (5_000, 0, 9), (0, 0, 0)])
+def test_a_disk_that_takes_no_more_files_is_told_though_it_has_room(tmp_path, monkeypatch, bound, left, status):
+    """Clients get an empty reply for what nginx keeps. A file system such as btrfs has no bound."""
+    monkeypatch.setattr(HEALTH.shutil, "disk_usage", lambda _: types.SimpleNamespace(free=1 << 30))
+    monkeypatch.setattr(os, "statvfs", lambda _: types.SimpleNamespace(f_files=bound, f_favail=left))
+    found = HEALTH.look_at_room([str(tmp_path)], 256)
+    said = f"make room: {tmp_path} can take {left} more files (df -i)" if status else ""
+    assert (found.status, found.seen) == (status, said)
+
+
 def test_room_is_looked_at_only_if_the_index_is_well(monkeypatch, capsys):
     little = HEALTH.Look(HEALTH.LITTLE_ROOM, "make room")
     rooms = calls(monkeypatch, HEALTH, "look_at_room", little)

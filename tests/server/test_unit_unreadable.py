@@ -1,5 +1,5 @@
-"""A disk that can't tell whether a file is there: no program takes that for a file that is not there, and leaves the log
-of a database behind, or puts a copy over a database. And a disk that can't keep a name."""
+"""A disk that can't tell whether a file is there, or keep a name: no program takes the file for one that is not there,
+and so leaves the log of a database behind, or puts a copy over a database."""
 import errno
 import os
 import types
