@@ -89,6 +89,16 @@ def test_a_form_has_4096_fields_at_most():
     assert refusal(field("x", b"") * 4097 + END) == (400, "the form has more than 4096 fields")
 
 
+@pytest.mark.parametrize("count, is_read", [(16, True), (17, False)])
+def test_the_head_of_a_field_has_16_semicolons_at_most(count, is_read):
+    """Python reads it in a time that grows by their square: 4,096 heads took half a minute, without a known token."""
+    long = field("name", b"x").replace(b"form-data", b"form-data" + b"; a=b" * (count - 1), 1)
+    if is_read:
+        assert list(fields(long + END)) == ["name"]
+    else:
+        assert refusal(long + END) == (400, "the form is malformed or breaks off")
+
+
 def test_the_head_of_a_field_has_2048_bytes_at_most():
     head = len(field("name", b"x", None).partition(b"\r\n\r\n")[0]) - len(BOUNDARY) - 2
     pad = b"; a=" + b"b" * (2048 - 4 - 4 - head)
