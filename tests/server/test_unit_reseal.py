@@ -121,6 +121,17 @@ def test_what_sqlite_finds_is_refused(tmp_path, monkeypatch):
     assert str(refused.value) == f"integrity_check: {said[:3]}" and not world.new.exists()
 
 
+def test_a_link_in_the_place_of_its_folder_empties_no_other(tmp_path, monkeypatch, capsys):
+    """The user of the index may put one beside its database, and root would remove all files of any folder."""
+    (tmp_path / "other").mkdir()
+    (tmp_path / "other" / "file").touch()
+    os.symlink(tmp_path / "other", tmp_path / "new.db.part")
+    asked = calls(monkeypatch, RESEAL, "make")
+    status, _, said = ends(RESEAL, monkeypatch, capsys, tmp_path / "x.db", tmp_path / "new.db")
+    assert status == 1 and "new.db.part" in said and not asked
+    assert (tmp_path / "other" / "file").exists()
+
+
 def test_a_link_to_a_database_is_followed_and_one_to_a_new_file_is_not(tmp_path, monkeypatch, capsys):
     os.symlink(tmp_path / "real.db", tmp_path / "link.db")
     asked = calls(monkeypatch, RESEAL, "make", lambda _, new, part: open(new, "w").close())

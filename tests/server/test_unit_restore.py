@@ -5,12 +5,13 @@ import gzip
 import http.server
 import json
 import os
+import shutil
 import socket
 import threading
 import types
 
 import pytest
-from support.library import changes, database, exchange
+from support.library import changes, database, disk, exchange
 from support.library import ends as library_ends
 from support.programs import program_of
 from support.unit import calls, raises, with_time
@@ -130,17 +131,61 @@ def test_a_copy_is_put_beside_with_its_log_and_tested_before_it_is_given_away(tm
         (tmp_path / f"copy.db{end}").write_bytes(f"copy{end}".encode())
     order, folder = [], tmp_path / "beside"
 
-    def tests(*words):
-        order.append(words)
+    def tests(command, path):
+        order.append((command, os.path.realpath(path)))
         assert sorted(os.listdir(folder)) == sorted(f"index.db{it}" for it in ends_there if it in ("", "-wal"))
 
     monkeypatch.setattr(RESTORE, "run", tests)
-    monkeypatch.setattr(RESTORE, "sync", lambda path: order.append(("sync", path)))
-    monkeypatch.setattr(RESTORE.os, "chown", lambda *words: order.append(("chown", *words)))
+    monkeypatch.setattr(RESTORE, "sync", lambda path: order.append(("sync", os.path.realpath(path))))
+    monkeypatch.setattr(RESTORE.os, "chown", lambda path, *ids: order.append(("chown", os.path.realpath(path), *ids)))
     RESTORE.put_beside(str(tmp_path / "copy.db"), str(folder), types.SimpleNamespace(st_uid=7, st_gid=8))
     made = f"{folder}/index.db"
     assert order == [(f"{RESTORE.HERE}/index-verify", made), ("chown", made, 7, 8), ("sync", made)]
     assert folder.stat().st_mode & 0o777 == 0o700 and os.stat(made).st_mode & 0o777 == 0o600
+
+
+def led_elsewhere(folder, elsewhere):
+    """What the user of the index may do beside its database: a link in the place of a folder of root."""
+    os.rename(folder, f"{folder}-moved")
+    os.symlink(elsewhere, folder)
+
+
+def test_a_copy_is_given_away_in_the_folder_that_was_made_and_not_where_a_link_leads(tmp_path, monkeypatch):
+    (tmp_path / "copy.db").write_bytes(b"copy")
+    folder, elsewhere, given = str(tmp_path / "beside"), tmp_path / "elsewhere", []
+    elsewhere.mkdir()
+    monkeypatch.setattr(RESTORE, "copy_file", lambda source, target: (led_elsewhere(folder, elsewhere),
+                                                                      shutil.copy(source, target)))
+    monkeypatch.setattr(RESTORE, "run", lambda *_: None)
+    monkeypatch.setattr(RESTORE.os, "chown", lambda path, *_: given.append(os.path.realpath(path)))
+    RESTORE.put_beside(str(tmp_path / "copy.db"), folder, types.SimpleNamespace(st_uid=7, st_gid=8))
+    assert given == [f"{folder}-moved/index.db"] and not os.listdir(elsewhere)
+
+
+def test_old_files_are_put_into_the_folder_that_was_made_and_not_where_a_link_leads(tmp_path, monkeypatch):
+    db, aside, elsewhere = tmp_path / "index.db", str(tmp_path / "aside"), tmp_path / "elsewhere"
+    elsewhere.mkdir()
+    for path in (db, tmp_path / "made"):
+        path.write_text(path.name)
+    monkeypatch.setattr(exchange, "made_own", lambda path: (disk.made_own(path), led_elsewhere(path, elsewhere))[0])
+    exchange.exchange(str(db), str(tmp_path / "made"), aside, "note")
+    assert sorted(os.listdir(f"{aside}-moved")) == ["index.db", "unfinished"] and not os.listdir(elsewhere)
+
+
+def test_a_folder_is_its_own_user_s_and_no_link(tmp_path, monkeypatch):
+    folder, linked = tmp_path / "folder", tmp_path / "linked"
+    at = disk.made_own(str(folder))
+    assert folder.stat().st_mode & 0o777 == 0o700 and os.path.samefile(at, folder)
+    folder.rename(tmp_path / "moved")
+    assert os.path.samefile(at, tmp_path / "moved") and os.path.samefile(disk.own(str(tmp_path / "moved")), at)
+    linked.symlink_to(tmp_path / "moved")
+    with pytest.raises(OSError, match="linked"):
+        disk.own(str(linked))
+    monkeypatch.setattr(disk.os, "geteuid", lambda: os.getuid() + 1)
+    opened = len(os.listdir("/proc/self/fd"))
+    with pytest.raises(Refused, match="moved: another user has put it there"):
+        disk.own(str(tmp_path / "moved"))
+    assert len(os.listdir("/proc/self/fd")) == opened
 
 
 def test_a_lock_is_held_until_the_file_is_closed_and_none_is_left_open(tmp_path, monkeypatch):
@@ -203,7 +248,7 @@ def test_an_exchange_keeps_all_old_files_and_takes_the_database_first(tmp_path, 
         real = getattr(os, name)
         monkeypatch.setattr(exchange.os, name,
                             lambda *it, name=name, real=real: (order.append((name, it[0])), real(*it)))
-    monkeypatch.setattr(exchange, "sync", lambda path: order.append(("sync", path)))
+    monkeypatch.setattr(exchange, "sync", lambda path: order.append(("sync", os.path.realpath(path))))
     exchange.exchange(db, str(tmp_path / "made"), str(tmp_path / "aside"), "of a copy")
     aside = str(tmp_path / "aside")
     assert order == [("mkdir", aside), ("sync", f"{aside}/unfinished"), *(("link", db + it) for it in database.ENDS),

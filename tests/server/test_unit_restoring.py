@@ -61,13 +61,31 @@ def test_a_copy_is_tested_before_the_units_stop_and_caches_are_emptied_last(tmp_
     world = World(tmp_path, monkeypatch)
     world.restored()
     tested = world.order.pop(0)
-    assert tested.startswith(f"{RESTORE.HERE}/index-verify {world.folder}/restoring-")
+    assert tested.startswith(f"{RESTORE.HERE}/index-verify /proc/{os.getpid()}/fd/")
     assert world.order == ["systemctl stop a.service", "systemctl try-reload-or-restart nginx.service", "ignore",
                            "empty /c", "systemctl start a.service"]
     aside, = world.folder.glob("before-*")
     assert sorted(os.listdir(world.folder)) == [aside.name, "index.db"]
     assert sorted(os.listdir(aside)) == ["forgotten", "index.db", "index.db-wal"]
     assert not signal.pthread_sigmask(signal.SIG_BLOCK, []) & set(library_ends.SIGNALS)
+
+
+def test_what_is_forgotten_is_not_written_where_a_link_leads(tmp_path, monkeypatch, capsys):
+    """The user of the index may put one in the place of what was put aside, as soon as the index runs again."""
+    world, elsewhere = World(tmp_path, monkeypatch), tmp_path / "elsewhere"
+    elsewhere.mkdir()
+    (tmp_path / "changes.log").write_text("{}\n")
+
+    def first_answer(*_):
+        aside, = world.folder.glob("before-*")
+        aside.rename(world.folder / "moved")
+        aside.symlink_to(elsewhere)
+        return ""
+
+    monkeypatch.setattr(RESTORE, "first_answer", first_answer)
+    world.restored()
+    assert not os.listdir(elsewhere)
+    assert "They could not be gathered from" in capsys.readouterr().out
 
 
 def test_nobody_stops_a_restore_while_files_are_moved(tmp_path, monkeypatch):

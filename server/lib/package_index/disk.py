@@ -58,6 +58,22 @@ def put_there(made: str, path: str) -> None:
         raise
 
 
+def own(folder: str) -> str:
+    """A path to a folder of this user, which leads there whatever becomes of its name, as long as this program runs.
+    Whoever may write beside it could put a link in its place, and have root write elsewhere. Refuses what they put."""
+    opened = os.open(folder, os.O_RDONLY | os.O_DIRECTORY | os.O_NOFOLLOW)
+    if os.fstat(opened).st_uid != os.geteuid():
+        os.close(opened)
+        raise Refused(f"{folder}: another user has put it there")
+    return f"/proc/{os.getpid()}/fd/{opened}"
+
+
+def made_own(folder: str) -> str:
+    """The same, of a folder that is made, and that nobody else enters."""
+    os.mkdir(folder, 0o700)
+    return own(folder)
+
+
 def put_whole(path: str, text: str, mode: Optional[int] = None) -> None:
     """Puts a file there as a whole: a reader sees what was there, or all of this. With a mode it gets that one."""
     with open(f"{path}.part", "w", encoding="utf-8") as made:

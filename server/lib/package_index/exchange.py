@@ -9,7 +9,7 @@ from contextlib import contextmanager, suppress
 from typing import Iterator
 
 from package_index.database import ENDS
-from package_index.disk import is_there, sync
+from package_index.disk import is_there, made_own, sync
 from package_index.ends import Refused
 
 # the file with the note
@@ -38,14 +38,14 @@ def exchange(db: str, made: str, aside: str, note: str) -> None:
     lose one, and the database goes first: without it no program starts, and none takes a database without its log for a
     whole one. If it fails, they have their names again. The note stands beside them until somebody removes it."""
     there = [end for end in ENDS if is_there(db + end)]
-    os.mkdir(aside, 0o700)
+    at = made_own(aside)
     try:
-        with open(f"{aside}/{UNFINISHED}", "w") as kept:
+        with open(f"{at}/{UNFINISHED}", "w") as kept:
             kept.write(note)
         sync(kept.name)
         for end in there:
-            os.link(db + end, f"{aside}/index.db{end}")
-        sync(aside)
+            os.link(db + end, f"{at}/index.db{end}")
+        sync(at)
         for end in there:
             os.remove(db + end)
         os.rename(made, db)
