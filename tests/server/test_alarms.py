@@ -80,6 +80,13 @@ def test_each_unit_that_fails_is_told():
     assert [name for name in names if "\nOnFailure=index-alarm@%n.service\n" not in unit(name)] == []
 
 
+def test_a_follower_that_failed_is_started_again_and_one_that_was_stopped_is_not():
+    """As after a full disk: nginx goes on meanwhile to serve what was deleted or banned."""
+    assert "\nWants=index-uncache-follow.timer\n" in unit("index-uncache-follow.service")
+    timer = unit("index-uncache-follow.timer")
+    assert "\nPartOf=index-uncache-follow.service\n" in timer and "\nOnUnitInactiveSec=10min\n" in timer
+
+
 @pytest.mark.parametrize("name, minutes", [("index-alarm@.service", 5), ("index-health.service", 15)])
 def test_what_tells_is_ended_if_it_hangs(name, minutes):
     """As by a sendmail or a disk that never answers: nothing is told until it ends, and systemd has no bound for a unit
