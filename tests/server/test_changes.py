@@ -64,6 +64,14 @@ def test_no_line_has_a_token(lines, front):
     assert text and SECRET not in text and OTHERS not in text, text
 
 
+@pytest.mark.parametrize("name, is_logged", [("frob", False), ('"token":', True), ("token", True)])
+def test_a_token_in_a_body_is_not_in_the_log(front, name, is_logged):
+    """A line for `index apply` has one, and is no request: one who sends it by mistake has shown a token to nobody."""
+    body = json.dumps({"do": "claim", "name": name, **({} if is_logged else {"at": 1, "token": SECRET})})
+    assert front.ask("POST", "/requests", body, X_Index_Token="office")[0] == (200 if name == "token" else 400)
+    assert logged(front, 1)[-1]["body"] == (body if is_logged else "")
+
+
 def test_a_long_body_is_in_the_log(front):
     body = json.dumps({"do": "claim", "name": "x" * 60_000})
     front.ask("POST", "/requests", body, X_Index_Token="office")
