@@ -25,6 +25,7 @@ from package_index.hints import hint
 Headers = Tuple[Tuple[str, str], ...]
 PASSING = (500, 502, 503, 504)
 MOST_SECONDS = 90
+SECONDS = re.compile("[0-9]{1,9}")
 # what OpenSSL calls a certificate that is not valid yet, or no more
 OUT_OF_TIME = (9, 10)
 # and an authority that does not say what its key is for
@@ -211,7 +212,7 @@ class Index:
                 raise Stop(UNREACHED, f"{what}: {why}. It was not sent again, since it may have been done. Look first: "
                                       "`indexctl who` shows the name's owners, and `indexctl case show` its case.")
             if trial < self.again:
-                pause = min(30, max(0.5 * 2 ** trial, int(later) if later.isdigit() else 0))
+                pause = min(30, max(0.5 * 2 ** trial, int(later) if SECONDS.fullmatch(later) else 0))
                 note(f"{what}: {why}. Again in {pause:g} s.")
                 time.sleep(pause)
         maybe = " It may have been done, and is in no record then." if is_repeat and request.method != "GET" else ""

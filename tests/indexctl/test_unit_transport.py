@@ -63,7 +63,8 @@ def test_pauses_double_up_to_thirty_seconds(trial):
     assert end.value.status == UNREACHED and one.pauses == [0.5, 1, 2, 4, 8, 16, 30, 30]
 
 
-@pytest.mark.parametrize("later, pause", [("7", 7), ("0", 0.5), ("3600", 30), ("soon", 0.5), ("", 0.5)])
+@pytest.mark.parametrize("later, pause", [("7", 7), ("0", 0.5), ("3600", 30), ("soon", 0.5), ("", 0.5),
+                                          ("\N{SUPERSCRIPT TWO}", 0.5), ("9" * 5_000, 0.5)])
 def test_a_pause_is_what_the_reply_asks_for_within_bounds(trial, later, pause):
     one = trial([reply(503, b"", Retry_After=later), OK])
     one.index.ask("x", GET)
