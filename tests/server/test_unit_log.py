@@ -14,7 +14,7 @@ SOUND = "{} commits, and nothing that was acknowledged is missing"
 
 
 def seen(log):
-    look = LOG.Look(log)
+    look = LOG.look_of(log)
     return look.is_damaged, look.gate, look.text
 
 
@@ -214,7 +214,7 @@ def test_a_cut_is_on_the_disk_and_under_a_lock_for_one_alone(tmp_path, monkeypat
     real = LOG.os.fsync
     monkeypatch.setattr(LOG, "lock", lambda database: order.append(("lock", database.name, files.now() == DAMAGED_LOG)))
     monkeypatch.setattr(LOG.os, "fsync", lambda it: order.append(("sync", files.now()[place(1) + 8])) or real(it))
-    LOG.cut(files.db, LOG.Look(DAMAGED_LOG))
+    LOG.cut(files.db, LOG.look_of(DAMAGED_LOG))
     assert order == [("lock", files.db, True), ("sync", 0)]
 
 

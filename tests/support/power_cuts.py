@@ -264,7 +264,7 @@ def fault_of_index(program: str, path: str, allowed: list[Rows | None]) -> str:
         return "the database is gone"
     if os.path.exists(f"{path}-wal"):
         with open(f"{path}-wal", "rb") as log:
-            look = program_of("index-log").Look(log.read())
+            look = program_of("index-log").look_of(log.read())
         if look.is_damaged:
             return f"index-log: {look.text}"
     checked = run(program, "check", "--db", path)
