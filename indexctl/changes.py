@@ -35,7 +35,7 @@ class Desk:
     """Asks for changes, says of each what became of it, and keeps the accepted ones in the record."""
 
     def __init__(self, args: argparse.Namespace) -> None:
-        self.setting = find_setting(args)
+        self.setting = find_setting(args.profile)
         self.index = Index(self.setting, args.again)
         self.refused = 0
         self.record: Optional[Record] = None

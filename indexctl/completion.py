@@ -138,7 +138,7 @@ def found_in_time(line: Line) -> List[str]:
 
     def look() -> None:
         with suppress(Stop, OSError):
-            index = Index(find_setting(argparse.Namespace(profile=line.profile)), 0, PATIENCE)
+            index = Index(find_setting(line.profile), 0, PATIENCE)
             found.extend(FINDERS[line.kind](index, line))
     looking = threading.Thread(target=look, daemon=True)
     looking.start()

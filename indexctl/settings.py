@@ -1,7 +1,6 @@
 """Where the index is and who asks it: the environment, a profile or ~/.netrc."""
 from __future__ import annotations
 
-import argparse
 import configparser
 import ipaddress
 import netrc
@@ -173,10 +172,10 @@ def setting_of_profile(name: Optional[str]) -> Setting:
     return setting_from(f"the profile {name}", f"url of {name}", values, token, values.get("token-file", ""))
 
 
-def find_setting(args: argparse.Namespace) -> Setting:
+def find_setting(profile: Optional[str]) -> Setting:
     """--profile, else INDEX_URL, else a profile. A token is never sent to an index that another place names."""
-    if args.profile:
-        return setting_of_profile(args.profile)
+    if profile:
+        return setting_of_profile(profile)
     if os.environ.get("INDEX_URL"):
         return setting_of_environment()
     for name in ("INDEX_TOKEN_FILE", "INDEX_TOKEN", "INDEX_CA", "INDEX_RECORD"):

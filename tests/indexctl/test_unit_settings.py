@@ -7,7 +7,6 @@ import re
 import pytest
 from indexctl import settings
 from indexctl.ends import WRONG, Stop
-from support.indexctl.rows import args
 
 
 @pytest.fixture(autouse=True)
@@ -243,12 +242,12 @@ def test_a_profile_has_its_token_in_a_file(home):
 
 def test_a_profile_that_is_named_goes_first_then_the_environment_then_a_profile(home, monkeypatch):
     profiles(home, TWO)
-    assert settings.find_setting(args()).url == "https://d"
+    assert settings.find_setting(None).url == "https://d"
     monkeypatch.setenv("INDEX_PROFILE", "only")
-    assert settings.find_setting(args()).url == "https://h"
+    assert settings.find_setting(None).url == "https://h"
     monkeypatch.setenv("INDEX_URL", "https://e")
-    assert (settings.find_setting(args()).url, settings.find_setting(args()).place) == ("https://e", "the environment")
-    assert settings.find_setting(args(profile="default")).url == "https://d"
+    assert (settings.find_setting(None).url, settings.find_setting(None).place) == ("https://e", "the environment")
+    assert settings.find_setting("default").url == "https://d"
 
 
 @pytest.mark.parametrize("name", ["INDEX_TOKEN_FILE", "INDEX_TOKEN", "INDEX_CA", "INDEX_RECORD"])
@@ -256,15 +255,15 @@ def test_what_is_set_for_no_index_is_refused(home, monkeypatch, name):
     profiles(home, ONE)
     monkeypatch.setenv(name, "x")
     with pytest.raises(Stop, match=f"{name} is set, and INDEX_URL is not.*unset {name}") as end:
-        settings.find_setting(args())
+        settings.find_setting(None)
     assert end.value.status == WRONG
 
 
 def test_the_environment_has_all_that_a_profile_has(home, monkeypatch):
     for name, value in (("URL", "https://e"), ("TOKEN", " abc "), ("CA", "/ca"), ("RECORD", "/r")):
         monkeypatch.setenv(f"INDEX_{name}", value)
-    found = settings.find_setting(args())
+    found = settings.find_setting(None)
     assert (found.token, found.source, found.ca, found.record) == ("abc", "INDEX_TOKEN", "/ca", "/r")
     monkeypatch.setenv("INDEX_TOKEN_FILE", put(home / "token", "other"))
-    found = settings.find_setting(args())
+    found = settings.find_setting(None)
     assert (found.token, found.source) == ("other", "INDEX_TOKEN_FILE")
