@@ -1,17 +1,16 @@
 """The texts of the repository that pages are made of and held to."""
 import os
 
+import texts
 from top import TOP
 
 
 def read(path):
-    with open(f"{TOP}/{path}", encoding="utf-8") as file:
-        return file.read()
+    return texts.read(f"{TOP}/{path}")
 
 
 def write(path, text):
-    with open(f"{TOP}/{path}", "w", encoding="utf-8") as file:
-        file.write(text)
+    texts.write(f"{TOP}/{path}", text)
 
 
 def pages():
