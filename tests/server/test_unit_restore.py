@@ -189,14 +189,18 @@ def test_a_folder_is_its_own_user_s_and_no_link(tmp_path, monkeypatch):
 
 
 def test_a_lock_is_held_until_the_file_is_closed_and_none_is_left_open(tmp_path, monkeypatch):
-    assert RESTORE.take_lock(str(tmp_path / "none")) is None
-    (tmp_path / "index.db").touch()
     asked = calls(monkeypatch, RESTORE, "lock")
-    with RESTORE.take_lock(str(tmp_path / "index.db")) as taken:
-        assert asked == [(taken, f"end that first (fuser {tmp_path}/index.db)")]
-    monkeypatch.setattr(RESTORE, "lock", raises(Refused("held")))
-    with pytest.raises(Refused, match="held"):
-        RESTORE.take_lock(str(tmp_path / "index.db"))
+    with RESTORE.locked(str(tmp_path / "none")):
+        assert asked == []
+    (tmp_path / "index.db").touch()
+    with RESTORE.locked(str(tmp_path / "index.db")):
+        (file, advice), = asked
+        assert (file.name, advice) == (f"{tmp_path}/index.db", f"end that first (fuser {tmp_path}/index.db)")
+        assert not file.closed
+    asked = calls(monkeypatch, RESTORE, "lock", raises(Refused("held")))
+    with pytest.raises(Refused, match="held"), RESTORE.locked(str(tmp_path / "index.db")):
+        pass
+    assert file.closed and asked[0][0].closed
 
 
 @pytest.mark.parametrize("is_held", [True, False])

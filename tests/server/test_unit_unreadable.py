@@ -67,7 +67,7 @@ def test_names_that_can_not_be_put_back_stay_where_they_are(files, unreadable):
 @pytest.mark.parametrize("does, end", [
     (lambda it: RESTORE.put_beside(it.copy, f"{it.folder}/beside", os.lstat(it.folder)), "copy.db-wal"),
     (lambda it: RESTORE.want_complete(it.copy, it.db), "index.db-wal"),
-    (lambda it: RESTORE.take_lock(it.db), "index.db"),
+    (lambda it: RESTORE.locked(it.db).__enter__(), "index.db"),
     (lambda it: RESTORE.Pypi(it.db).take_off(), "index.db"),
     (lambda it: RESEAL.copy_locked(it.db, f"{it.folder}/sealed.db"), "index.db-wal"),
     (lambda it: LOG.look_at(it.db, [], False), "index.db-wal"),
