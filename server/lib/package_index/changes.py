@@ -32,15 +32,11 @@ def rotated(log: str) -> List[str]:
 def lines_of(path: str) -> Iterator[str]:
     """The lines of a log, which may be compressed. One that is damaged, as by a power cut, ends by a line that says so:
     what was read, and other logs, are not lost with it."""
-    if path.endswith(".gz"):
-        with gzip.open(path, "rt", errors="replace") as packed:
-            try:
-                yield from packed
-            except (EOFError, zlib.error, gzip.BadGzipFile) as end:
-                yield f"{path}: {end}: {DAMAGED}\n"
-    else:
-        with open(path, errors="replace") as plain:
-            yield from plain
+    with gzip.open(path, "rt", errors="replace") if path.endswith(".gz") else open(path, errors="replace") as log:
+        try:
+            yield from log
+        except (EOFError, zlib.error, gzip.BadGzipFile) as end:
+            yield f"{path}: {end}: {DAMAGED}\n"
 
 
 def dated(log: str, since: datetime.datetime) -> Iterator[Tuple[datetime.datetime, str]]:

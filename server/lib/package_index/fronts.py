@@ -8,6 +8,7 @@ import os
 import socket
 import ssl
 import time
+from contextlib import closing
 from typing import Iterator, List, NamedTuple, Optional, Tuple
 
 from package_index.disk import sync
@@ -46,14 +47,11 @@ def add_line(path: str, line: str) -> None:
 
 def fetched(front: Front, begin: int, trust: ssl.SSLContext) -> bytes:
     """The list of another nginx from this byte on, or nothing if it is shorter."""
-    connection = http.client.HTTPConnection(front.host)
-    try:
+    with closing(http.client.HTTPConnection(front.host)) as connection:
         connection.sock = connect(front, trust, PATIENCE)
         connection.request("GET", ADDRESS, headers={"Range": f"bytes={begin}-"})
         reply = connection.getresponse()
         body = reply.read()
-    finally:
-        connection.close()
     if reply.status not in (200, 206, http.client.REQUESTED_RANGE_NOT_SATISFIABLE):
         raise Refused(f"it answers {reply.status}: {WHY.get(reply.status, 'is it an nginx of this index?')}")
     return {200: body[begin:], 206: body}.get(reply.status, b"")
