@@ -11,27 +11,25 @@ import os
 import sys
 import zipapp
 import zipfile
+from pathlib import Path
 from typing import Iterator, Tuple
 
-HERE = os.path.dirname(os.path.abspath(__file__))
+HERE = Path(__file__).resolve().parent
 # a zip archive has no earlier moment
 TIME = (1980, 1, 1, 0, 0, 0)
-SHARED = os.path.join(os.path.dirname(HERE), "server", "lib", "package_index")
+SHARED = HERE.parent / "server/lib/package_index"
 MAIN = "import sys\n\nfrom indexctl.main import main\n\nsys.exit(main())\n"
 TAKEN = ("__init__.py", "hints.py", "names.py")
 LEFT_OUT = ("__main__.py", "build.py")
 SUFFIXES = (".py", ".html", ".css", ".js")
 
 
-def files_of(folder: str, package: str) -> Iterator[Tuple[str, bytes]]:
+def files_of(folder: Path, package: str) -> Iterator[Tuple[str, bytes]]:
     """The files of a package, by their paths in the archive."""
-    for at, inner, names in os.walk(folder):
-        inner[:] = [name for name in inner if name != "__pycache__"]
-        for name in names:
-            path = os.path.relpath(os.path.join(at, name), folder).replace(os.sep, "/")
-            if name.endswith(SUFFIXES) and path not in LEFT_OUT:
-                with open(os.path.join(at, name), "rb") as kept:
-                    yield f"{package}/{path}", kept.read()
+    for path in folder.rglob("*"):
+        name = path.relative_to(folder).as_posix()
+        if path.suffix in SUFFIXES and name not in LEFT_OUT:
+            yield f"{package}/{name}", path.read_bytes()
 
 
 def build(target: str) -> None:

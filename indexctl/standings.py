@@ -6,6 +6,7 @@ import queue
 import secrets
 import threading
 import urllib.parse
+from contextlib import suppress
 from dataclasses import dataclass, field
 from typing import Any, Callable, Dict, Iterator, List, Optional, Sequence, Tuple, TypeVar
 
@@ -141,16 +142,14 @@ def side_by_side(function: Callable[[Sequence[Item]], List[Result]], items: Sequ
         starts.put(at)
 
     def work() -> None:
-        while True:
-            try:
+        with suppress(queue.Empty):
+            while True:
                 at = starts.get_nowait()
-            except queue.Empty:
-                return
-            try:
-                given.put((at, function(items[at:at + length]), None))
-            except BaseException as end:
-                given.put((at, [], end))
-                return
+                try:
+                    given.put((at, function(items[at:at + length]), None))
+                except BaseException as end:
+                    given.put((at, [], end))
+                    return
     for _ in range(min(SIDE_BY_SIDE, len(items))):
         # they end with the program: Ctrl-C waits for none of them
         threading.Thread(target=work, daemon=True).start()

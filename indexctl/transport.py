@@ -11,7 +11,7 @@ import threading
 import time
 import urllib.parse
 import urllib.request
-from contextlib import suppress
+from contextlib import closing, suppress
 from dataclasses import dataclass, replace
 from http.client import HTTPConnection, HTTPMessage, HTTPSConnection
 from typing import Any, Callable, Dict, Iterable, List, Optional, Sequence, Tuple
@@ -129,8 +129,7 @@ class Index:
 
     def once(self, request: Request) -> Reply:
         """The reply to a request that goes out once, also to one that is answered before all of it went out."""
-        connection = self.connection()
-        try:
+        with closing(self.connection()) as connection:
             self.connect(connection)
             connection.putrequest(request.method, request.path)
             for name, value in {**self.headers, **dict(request.headers), "Content-Length": str(request.length)}.items():
@@ -141,8 +140,6 @@ class Index:
                     connection.send(piece)
             reply = connection.getresponse()
             return Reply(reply.status, reply.headers, reply.read())
-        finally:
-            connection.close()
 
     def kept_connection(self) -> HTTPConnection:
         """The open connection that this thread keeps: behind nginx that spares a handshake for each GET."""
