@@ -22,17 +22,13 @@ class CaseRow(Case):
     earliest: int
     latest: int
 
-    def has(self, means: str) -> bool:
-        """Whether an attempt was made by these means."""
-        return bool(getattr(self, means))
-
 
 def lacks_of(case: Case, earliest: int, now: int) -> List[str]:
     """What a case lacks of attempts and of the six weeks."""
     lacks = []
     if case.sent < FEWEST_SENT:
         lacks.append(f"{counted(FEWEST_SENT - case.sent, 'more attempt')} sent")
-    lacks += [f"an attempt by {it}" for it in MEANS if not getattr(case, it)]
+    lacks += [f"an attempt by {it}" for it in MEANS if not case.has(it)]
     if earliest > now:
         lacks.append("six weeks from the first attempt on" if case.first is None else
                      f"six weeks, until {due(earliest)}")

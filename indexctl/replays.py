@@ -108,7 +108,7 @@ def is_counted(case: Case, attempts: Sequence[Line]) -> bool:
     means of the last."""
     sent = sum(it.row.get("sent") is True for it in attempts)
     means = str(attempts[-1].row.get("means"))
-    return case.attempts >= len(attempts) and case.sent >= sent and getattr(case, means, False) is True
+    return case.attempts >= len(attempts) and case.sent >= sent and case.has(means)
 
 
 class Attempts:

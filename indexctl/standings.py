@@ -8,7 +8,7 @@ import threading
 import urllib.parse
 from contextlib import suppress
 from dataclasses import dataclass, field
-from typing import Any, Callable, Dict, Iterator, List, Optional, Sequence, Tuple, TypeVar
+from typing import Any, Callable, Dict, Iterator, List, Optional, Sequence, Tuple, TypeVar, get_type_hints
 
 from indexctl.ends import REFUSED, WRONG, Stop
 from indexctl.terminal import Progress
@@ -21,8 +21,6 @@ Result = TypeVar("Result")
 SIDE_BY_SIDE = 8
 # so many items go to a thread at once, in a long walk
 MOST_AT_ONCE = 64
-CASE_KINDS = {"attempts": int, "author": bool, "candidate": str, "contact": str, "kind": str, "opened": int,
-              "pages": bool, "profile": bool, "sent": int, "why": str, "work": str}
 # the largest number, and the latest moment, that a standing may have: both can be told in words
 MOST_NUMBER, LAST_MOMENT = 1 << 60, 250_000_000_000
 
@@ -42,6 +40,14 @@ class Case:
     author: bool
     pages: bool
     first: Optional[int]
+
+    def has(self, means: str) -> bool:
+        """Whether an attempt was made by these means."""
+        return getattr(self, means, False) is True
+
+
+# of what each case has: `first` may be missing
+CASE_KINDS = {key: kind for key, kind in get_type_hints(Case).items() if key != "first"}
 
 
 @dataclass(frozen=True)

@@ -78,6 +78,12 @@ class PlainConnection(HTTPConnection):
         self.found = found
 
 
+class Kept(threading.local):
+    """What each thread keeps: its open connection, and how many requests may go out at once on that."""
+    connection: Optional[HTTPConnection] = None
+    ahead = 1
+
+
 class NotSent(Exception):
     """There is no connection, so nothing of a request went out."""
 
@@ -87,7 +93,7 @@ class Index:
 
     def __init__(self, setting: Setting, again: int = 6, patience: float = MOST_SECONDS) -> None:
         self.setting, self.again, self.patience = setting, max(0, again), patience
-        self.parts, self.kept = urllib.parse.urlsplit(setting.url), threading.local()
+        self.parts, self.kept = urllib.parse.urlsplit(setting.url), Kept()
         self.headers: Dict[str, str] = {"User-Agent": "indexctl"}
         if setting.basic:
             self.headers["Authorization"] = f"Basic {base64.b64encode(setting.basic.encode()).decode()}"
@@ -143,18 +149,15 @@ class Index:
 
     def kept_connection(self) -> HTTPConnection:
         """The open connection that this thread keeps: behind nginx that spares a handshake for each GET."""
-        connection: Optional[HTTPConnection] = getattr(self.kept, "connection", None)
-        if connection is None:
-            connection = self.kept.connection = self.connection()
+        connection = self.kept.connection = self.kept.connection or self.connection()
         if connection.sock is None:
             self.connect(connection)
         return connection
 
     def leave(self) -> None:
         """Closes the connection that this thread keeps, after a reply that was not read to its end."""
-        connection: Optional[HTTPConnection] = getattr(self.kept, "connection", None)
-        if connection is not None:
-            connection.close()
+        if self.kept.connection:
+            self.kept.connection.close()
 
     def look(self, request: Request) -> Reply:
         """The reply to a GET."""
@@ -178,7 +181,7 @@ class Index:
         # where nobody answers the others are not tried, of which each may take as long
         with suppress(NotSent, OSError):
             while len(found) < len(paths):
-                ahead = paths[len(found):len(found) + getattr(self.kept, "ahead", 1)]
+                ahead = paths[len(found):len(found) + self.kept.ahead]
                 is_last = True
                 try:
                     peer = self.kept_connection().sock
