@@ -97,12 +97,8 @@ class Desk:
         note(sentence, "red")
         return False
 
-    def change(self, what: str, token: Optional[str] = None, more: Row = NOTHING_MORE, **row: object) -> bool:
+    def change(self, what: str, row: Row, token: Optional[str] = None, more: Row = NOTHING_MORE) -> bool:
         """Asks for a change by JSON, and says what became of it. Gives whether it is so now."""
-        return self.change_by(what, row, token, more)
-
-    def change_by(self, what: str, row: Row, token: Optional[str] = None, more: Row = NOTHING_MORE) -> bool:
-        """The same, for a request that is a row already."""
         return self.tell(what, row, *self.post(what, row, token, more=more))
 
     def delete(self, file: str, more: Row = NOTHING_MORE) -> bool:

@@ -169,7 +169,7 @@ def replay_line(desk: Desk, line: Line) -> None:
     if row["do"] == "delete":
         done = desk.delete(row["file"], more)
     else:
-        done = desk.change_by(what.strip(), row, more=more)
+        done = desk.change(what.strip(), row, more=more)
     if done and row["do"] == "record_attempt":
         note(f"line {line.number}: the attempt counts from now on, not from {moment(line.at)}", "yellow")
     if not done and row["do"] == "ban_file":

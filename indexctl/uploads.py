@@ -120,7 +120,7 @@ def upload_file(desk: Desk, file: File, claims: bool) -> bool:
     begun = time.monotonic()
     status, answer = desk.send(file.name, row, request)
     if answer == "NoProject" and claims:
-        if not desk.change(f"claim {file.shown}", do="claim", name=file.shown):
+        if not desk.change(f"claim {file.shown}", {"do": "claim", "name": file.shown}):
             return False
         status, answer = desk.send(file.name, row, request)
     if status not in (200, 201):

@@ -105,5 +105,5 @@ def case_transfer(args: argparse.Namespace) -> int:
     found = held(desk.index, args.name)
     if found.case:
         confirm(args, f"{found.name} passes from {', '.join(found.owners)} to {found.case.candidate}, for good.")
-    desk.change(f"case of {args.name}: transfer", do="transfer", name=args.name, quiet=True)
+    desk.change(f"case of {args.name}: transfer", {"do": "transfer", "name": args.name, "quiet": True})
     return desk.status()

@@ -54,7 +54,7 @@ def file_ban(args: argparse.Namespace) -> int:
     desk = Desk(args)
     confirm(args, f"{', '.join(args.files)} will be banned for good. {tell_files(desk.index, projects)}")
     for file, project in projects.items():
-        if desk.change(f"ban {file}", do="ban_file", file=file):
+        if desk.change(f"ban {file}", {"do": "ban_file", "file": file}):
             tell_uncache(project, [file])
     return desk.status()
 
@@ -67,8 +67,8 @@ def release_yank(args: argparse.Namespace) -> int:
     check_reason(args.reason)
     desk = Desk(args)
     confirm_on_terminal(args, tell_release(desk.index, args.name, args.release))
-    desk.change(f"yank {args.name} {args.release}", do="yank", name=args.name, release=args.release,
-                reason=args.reason)
+    desk.change(f"yank {args.name} {args.release}",
+                {"do": "yank", "name": args.name, "release": args.release, "reason": args.reason})
     return desk.status()
 
 

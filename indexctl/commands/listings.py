@@ -61,7 +61,7 @@ def quota_set(args: argparse.Namespace) -> int:
     found = held(desk.index, args.name)
     wanted = size_of(args.size, found.quota)
     desk.change(f"quota of {found.name}: {human(found.quota)} becomes {human(wanted)} ({counted(wanted, 'byte')})",
-                do="set_quota", name=args.name, quota=wanted)
+                {"do": "set_quota", "name": args.name, "quota": wanted})
     return desk.status()
 
 

@@ -20,7 +20,7 @@ def each_name(args: argparse.Namespace, do: str) -> int:
     check_names(*args.names)
     desk = Desk(args)
     for name in args.names:
-        desk.change(f"{do} {name}", do=do, name=name)
+        desk.change(f"{do} {name}", {"do": do, "name": name})
     return desk.status()
 
 
@@ -28,7 +28,7 @@ def change_name(args: argparse.Namespace, what: str, do: str, **row: object) -> 
     """One change of the name that the command line has."""
     check_names(args.name)
     desk = Desk(args)
-    desk.change_by(what, {"do": do, "name": args.name, **row})
+    desk.change(what, {"do": do, "name": args.name, **row})
     return desk.status()
 
 
@@ -50,7 +50,7 @@ def name_relinquish(args: argparse.Namespace) -> int:
     check_names(args.name)
     desk = Desk(args)
     confirm(args, f"Anybody may claim {args.name} from then on.")
-    desk.change(f"relinquish {args.name}", do="relinquish", name=args.name)
+    desk.change(f"relinquish {args.name}", {"do": "relinquish", "name": args.name})
     return desk.status()
 
 
@@ -66,7 +66,7 @@ def name_prohibit(args: argparse.Namespace) -> int:
     if there:
         confirm(args, f"This deletes files and takes names from their owners: {'; '.join(there)}.")
     for name, (_, files) in found.items():
-        if desk.change(f"prohibit {name}", do="prohibit", name=name):
+        if desk.change(f"prohibit {name}", {"do": "prohibit", "name": name}):
             tell_uncache(normal(name), files)
     return desk.status()
 
@@ -82,7 +82,7 @@ def each_owner(args: argparse.Namespace, do: str, said: str) -> int:
     check_users(args.user)
     desk = Desk(args)
     for name in args.names:
-        desk.change(said.format(name=name, user=args.user), do=do, name=name, user=args.user)
+        desk.change(said.format(name=name, user=args.user), {"do": do, "name": name, "user": args.user})
     return desk.status()
 
 

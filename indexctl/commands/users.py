@@ -29,7 +29,7 @@ def digest_of(args: argparse.Namespace) -> Tuple[str, Optional[str]]:
 def give_token(desk: Desk, what: str, row: Row, token: Optional[str]) -> None:
     """Asks for a change that makes a token known, and prints a token that was made here, once."""
     try:
-        if desk.change_by(what, row) and token:
+        if desk.change(what, row) and token:
             print(f"{row['user']}'s token, which is shown this once: {token}", flush=True)
     except Stop as end:
         lost = f" If it was done, its token is lost: use `indexctl user rotate {row['user']}`." if token else ""
@@ -78,7 +78,8 @@ def user_lock(args: argparse.Namespace) -> int:
     check_users(*args.users)
     desk = Desk(args)
     for user in args.users:
-        desk.change(f"user {user}: lock", do="set_token", user=user, token_sha256=sha256(secrets.token_hex(32)))
+        row = {"do": "set_token", "user": user, "token_sha256": sha256(secrets.token_hex(32))}
+        desk.change(f"user {user}: lock", row)
     return desk.status()
 
 
@@ -133,18 +134,18 @@ def lock_and_pass_on(desk: Desk, user: str, heir: Optional[str]) -> None:
     """Locks the user, and takes the user off each name. The names are listed after the lock: before it the user, and
     who has the user's token, may claim one more, or open a case."""
     token = secrets.token_hex(32)
-    if desk.change(f"user {user}: lock", do="set_token", user=user, token_sha256=sha256(token)):
+    if desk.change(f"user {user}: lock", {"do": "set_token", "user": user, "token_sha256": sha256(token)}):
         leaving = find_leaving(desk, user)
         for found in leaving.owned:
             pass_on(desk, found, user, heir, token)
         for name in leaving.asked:
-            desk.change(f"case of {name}: close", do="close_case", name=name)
+            desk.change(f"case of {name}: close", {"do": "close_case", "name": name})
 
 
 def pass_on(desk: Desk, found: Standing, user: str, heir: Optional[str], token: str) -> None:
     """Puts the heir in the place of the user as an owner of this name, asking as the user."""
     name, more = found.name, {"for": user}
     if heir and heir not in found.owners:
-        if not desk.change(f"{name}: add owner {heir}", token, more, do="add_owner", name=name, user=heir):
+        if not desk.change(f"{name}: add owner {heir}", {"do": "add_owner", "name": name, "user": heir}, token, more):
             return
-    desk.change(f"{name}: remove owner {user}", token, more, do="remove_owner", name=name, user=user)
+    desk.change(f"{name}: remove owner {user}", {"do": "remove_owner", "name": name, "user": user}, token, more)

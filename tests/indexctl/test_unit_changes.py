@@ -37,7 +37,7 @@ def test_a_request_is_about_a_name_or_a_file_s_project(row, name):
 
 def test_a_request_goes_out_with_the_token_and_the_name(desk):
     one = desk(answer())
-    assert one.change("x", do="claim", name="A_b")
+    assert one.change("x", {"do": "claim", "name": "A_b"})
     sent = one.index.asked[0]
     assert (sent.method, sent.path, sent.is_once) == ("POST", "/requests", False)
     assert dict(sent.headers) == {"X-Index-Token": "office", "X-Index-Name": "a-b"}
@@ -47,13 +47,13 @@ def test_a_request_goes_out_with_the_token_and_the_name(desk):
 
 def test_a_request_without_a_name_has_no_header_for_it(desk):
     one = desk(answer())
-    one.change("x", do="add_user", user="bob")
+    one.change("x", {"do": "add_user", "user": "bob"})
     assert dict(one.index.asked[0].headers) == {"X-Index-Token": "office"}
 
 
 def test_a_request_can_go_out_by_another_token(desk, tmp_path):
     one = desk(answer(), record=str(tmp_path / "r"))
-    one.change("x", "other", {"for": "bob"}, do="remove_owner", name="a", user="bob")
+    one.change("x", {"do": "remove_owner", "name": "a", "user": "bob"}, "other", {"for": "bob"})
     assert dict(one.index.asked[0].headers)["X-Index-Token"] == "other"
     row = json.loads((tmp_path / "r").read_text())
     assert (row["caller"], row["for"]) == (sha256("other")[:8], "bob")
@@ -63,14 +63,14 @@ def test_a_request_can_go_out_by_another_token(desk, tmp_path):
                                                                                      ("add_owner", False)])
 def test_what_is_never_already_is_sent_once(desk, do, is_once):
     one = desk(answer())
-    one.change("x", do=do, name="a")
+    one.change("x", {"do": do, "name": "a"})
     assert one.index.asked[0].is_once == is_once
 
 
 def test_without_a_token_nothing_is_asked_for(desk):
     one = desk(token="")
     with pytest.raises(Stop, match="There is no token in the environment") as end:
-        one.change("x", do="claim", name="a")
+        one.change("x", {"do": "claim", "name": "a"})
     assert end.value.status == WRONG and one.index.asked == []
 
 
@@ -118,14 +118,14 @@ def test_ctrl_c_in_a_change_says_that_it_may_have_been_done(desk, tmp_path, caps
         raise KeyboardInterrupt
     monkeypatch.setattr(one.index, "ask", interrupt)
     with pytest.raises(KeyboardInterrupt):
-        one.change("claim a", do="claim", name="a")
+        one.change("claim a", {"do": "claim", "name": "a"})
     assert "claim a: this may have been done, and is in no record" in capsys.readouterr().err
     assert (tmp_path / "r").read_text() == ""
 
 
 def test_what_became_of_a_change_is_said(desk, capsys):
     one = desk(answer(), answer(answer="already"), answer(404, "refused", name="NameProhibited"))
-    assert [one.change("claim a", do="claim", name="a") for _ in range(3)] == [True, True, False]
+    assert [one.change("claim a", {"do": "claim", "name": "a"}) for _ in range(3)] == [True, True, False]
     out = capsys.readouterr()
     assert out.out == "claim a: accepted\nclaim a: already, nothing changed\n"
     assert out.err.startswith("claim a: 404 NameProhibited. The office has prohibited this name.")
@@ -138,7 +138,7 @@ def test_nothing_refused_is_a_success(desk):
 
 def test_a_token_that_nobody_has_ends_the_run(desk):
     with pytest.raises(Stop, match="401 BadToken. No user has this token") as end:
-        desk(answer(401, "refused", name="BadToken")).change("x", do="claim", name="a")
+        desk(answer(401, "refused", name="BadToken")).change("x", {"do": "claim", "name": "a"})
     assert end.value.status == REFUSED
 
 

@@ -94,7 +94,7 @@ def test_a_token_is_printed_before_the_next_user_is_asked_for(run, monkeypatch):
     """Whoever interrupts then has the token of each user that was added."""
     kept, printed = io.BytesIO(), []
     monkeypatch.setattr(sys, "stdout", io.TextIOWrapper(kept))
-    monkeypatch.setattr(run.desk, "change_by", lambda *_: printed.append(kept.getvalue().count(b"\n")) or True)
+    monkeypatch.setattr(run.desk, "change", lambda *_: printed.append(kept.getvalue().count(b"\n")) or True)
     assert run("user", "add", "eve", "bob") == 0 and printed == [0, 1]
 
 
@@ -102,7 +102,7 @@ def test_a_token_is_printed_before_the_next_user_is_asked_for(run, monkeypatch):
 def test_a_token_that_may_be_lost_is_told(run, monkeypatch, status, said):
     def fail(*_):
         raise Stop(status, "No reply.")
-    run.desk.change_by = fail
+    run.desk.change = fail
     with pytest.raises(Stop, match="^No reply.") as end:
         run("user", "add", "eve")
     assert end.value.status == status
@@ -155,10 +155,10 @@ def test_a_name_that_was_claimed_until_the_lock_is_passed_on(run):
     run.names = [held("early")]
     change = run.desk.change
 
-    def claimed(what, *given, **row):
+    def claimed(what, row, *given):
         if row["do"] == "set_token":
             run.names = [held("early"), held("late")]
-        return change(what, *given, **row)
+        return change(what, row, *given)
     run.desk.change = claimed
     rows = run.asked("user", "leave", "ann", "--to", "bob")
     assert [(row["do"], row["name"]) for row in rows[1:]] == [
@@ -191,10 +191,10 @@ def test_a_leave_that_is_interrupted_says_to_run_it_again(run, capsys, end):
     leaves(run)
     before, change = signal.getsignal(end), run.desk.change
 
-    def interrupted(what, *given, **row):
+    def interrupted(what, row, *given):
         if row["do"] == "remove_owner":
             signal.raise_signal(end)
-        return change(what, *given, **row)
+        return change(what, row, *given)
     run.desk.change = interrupted
     with pytest.raises(KeyboardInterrupt):
         run("user", "leave", "ann", "--to", "bob")

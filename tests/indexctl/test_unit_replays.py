@@ -161,7 +161,7 @@ class FakeDesk:
     def status(self):
         return 0
 
-    def change_by(self, what, row, token=None, more=None):
+    def change(self, what, row, token=None, more=None):
         if len(self.asked) == self.fails_at:
             raise Stop(3, "The index does not answer now.")
         self.again.append(more)
@@ -343,10 +343,10 @@ def test_an_attempt_that_is_left_says_why_and_what_to_do(replayed, capsys, monke
 @pytest.mark.parametrize("end", ["SIGINT", "SIGHUP", "SIGTERM"])
 def test_a_replay_that_is_interrupted_says_at_which_line(replayed, capsys, end):
     class Interrupted(FakeDesk):
-        def change_by(self, what, row, token=None, more=None):
+        def change(self, what, row, token=None, more=None):
             if len(self.asked) == 1:
                 signal.raise_signal(number)
-            return super().change_by(what, row, token, more)
+            return super().change(what, row, token, more)
 
     def unseen(*_):
         raise AssertionError(f"nothing took {end}")

@@ -215,8 +215,8 @@ class FakeDesk:
         self.sent.append((row, request))
         return self.left.pop(0)
 
-    def change(self, what, do, name):
-        self.claimed.append((do, name))
+    def change(self, what, row):
+        self.claimed.append((row["do"], row["name"]))
         return self.claims
 
     def tell(self, what, row, status, answer):

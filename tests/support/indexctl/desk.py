@@ -22,17 +22,14 @@ class FakeDesk:
         self.asked, self.refuses, self.users, self.refused = [], refuses, users, 0
         self.index, self.setting, self.is_caller = self, SETTING, caller
 
-    def change_by(self, what, row, token=None, more=None):
+    def change(self, what, row, token=None, more=None):
         self.asked.append({**row, **({"token": token} if token else {}), **(more or {})})
         is_so = row["do"] not in self.refuses
         self.refused += not is_so
         return is_so
 
-    def change(self, what, token=None, more=None, **row):
-        return self.change_by(what, row, token, more)
-
     def delete(self, file):
-        return self.change_by("delete", {"do": "delete", "file": file})
+        return self.change("delete", {"do": "delete", "file": file})
 
     def is_user(self, user):
         return user in self.users
