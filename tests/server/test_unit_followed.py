@@ -111,7 +111,7 @@ def damaged(request, tmp_path):
 
 
 def test_a_damaged_log_is_told_and_loses_no_other_line(damaged, tmp_path):
-    since = datetime.datetime(2026, 1, 1, tzinfo=datetime.timezone.utc)
+    since = datetime.datetime(2026, 11, 1, tzinfo=datetime.timezone.utc)
     said = changes.changes_since([damaged], since, f"{tmp_path}/made").split("\n   ")
     made = (tmp_path / "made").read_text().splitlines()
     assert said[0].startswith(f"nginx passed on {len(made) - 1} of them") and len(said) == 2

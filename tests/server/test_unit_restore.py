@@ -405,9 +405,24 @@ def test_changes_come_oldest_first_from_rotated_logs(tmp_path):
     said = changes.changes_since([str(log)], since, str(tmp_path / "made"))
     made = [json.loads(it)["body"] for it in (tmp_path / "made").read_text().splitlines()]
     assert made == ["first", "\ufffd", "second", "third"]
-    assert said == f"nginx passed on 4 of them. They are in {tmp_path}/made, oldest first."
+    first, rest = said.split("\n   ")
+    assert first == f"nginx passed on 4 of them. They are in {tmp_path}/made, oldest first."
+    assert rest.startswith(f"{log} begins at 2026-01-01 00:00:00 UTC.")
     later = datetime.datetime(2026, 1, 1, 0, 0, 1, tzinfo=UTC)
     assert "passed on 3 of" in changes.changes_since([str(log)], later, str(tmp_path / "made"))
+
+
+@pytest.mark.parametrize("first, since, begins", [
+    ('{"at":"2026-01-15T00:00:00+02:00"}', (2026, 1, 1), "2026-01-14 22:00:00"),
+    ('{"at":"2026-01-15T00:00:00+00:00"}', (2026, 1, 15), ""), ("torn", (2026, 1, 16), "2026-01-17 00:00:00"),
+    ("torn", (2026, 1, 18), ""), ('{"at":"2026-01-15T00:00:00"}', (2026, 1, 16), "2026-01-17 00:00:00")])
+def test_a_log_that_begins_after_the_copy_may_lack_what_came_before(tmp_path, first, since, begins):
+    """As after a restore of a copy that is older than the logs that are kept."""
+    log = tmp_path / "changes.log"
+    log.write_text(f'{first}\n{{"at":"2026-01-17T00:00:00+00:00"}}\n')
+    said = changes.changes_since([str(log)], datetime.datetime(*since, tzinfo=UTC), str(tmp_path / "made"))
+    wanted = f"\n   {log} begins at {begins} UTC. If there were changes before, they are missing." if begins else ""
+    assert said.endswith(f"oldest first.{wanted}")
 
 
 def test_changes_of_several_fronts_come_oldest_first(tmp_path):

@@ -13,14 +13,20 @@ from typing import Iterator, List, Optional, Sequence, Tuple
 DAMAGED = "no more of this log can be read"
 
 
-def moment_of(line: str, since: datetime.datetime) -> Optional[datetime.datetime]:
-    """The moment of a line of nginx's log of changes if it is from `since` on. If it can't be read it is `since`."""
+def moment_in(line: str) -> Optional[datetime.datetime]:
+    """The moment of a line of nginx's log of changes; None if it can't be read."""
     try:
         said = json.loads(line)
         moment = datetime.datetime.fromisoformat(said.get("at") or said.get("time"))
-        return moment if moment >= since else None
+        return moment if moment.tzinfo else None
     except (ValueError, TypeError, AttributeError):
-        return since
+        return None
+
+
+def moment_of(line: str, since: datetime.datetime) -> Optional[datetime.datetime]:
+    """The moment of a line if it is from `since` on. If it can't be read it is `since`."""
+    moment = moment_in(line) or since
+    return moment if moment >= since else None
 
 
 def rotated(log: str) -> List[str]:
@@ -50,6 +56,14 @@ def dated(log: str, since: datetime.datetime) -> Iterator[Tuple[datetime.datetim
                 yield latest, f"{line.rstrip()}\n"
 
 
+def late(log: str, since: datetime.datetime) -> List[str]:
+    """What to say of a log whose first line is later than this moment: older ones may have been removed."""
+    moments = (moment_in(line) for path in rotated(log) for line in lines_of(path))
+    first = next(filter(None, moments), since).astimezone(datetime.timezone.utc)
+    said = f"{log} begins at {first:%Y-%m-%d %H:%M:%S} UTC. If there were changes before, they are missing."
+    return [said] if first > since else []
+
+
 def changes_since(logs: Sequence[str], since: datetime.datetime, target: str) -> str:
     """Gathers the lines of logs of changes, and of those that were rotated away, into a file. Returns what to say of
     it."""
@@ -61,5 +75,5 @@ def changes_since(logs: Sequence[str], since: datetime.datetime, target: str) ->
             made.writelines(line for _, line in lines)
         damaged = [line.strip() for _, line in lines if line.endswith(f"{DAMAGED}\n")]
         said = [f"nginx passed on {len(lines) - len(damaged)} of them. They are in {target}, oldest first.",
-                *damaged, *said]
+                *damaged, *said, *(it for log in logs for it in late(log, since))]
     return "\n   ".join(said)
