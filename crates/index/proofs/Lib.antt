@@ -1,9 +1,9 @@
 pub mod ChainLemmas
 pub mod FaultLemmas
+pub mod FilesLemmas
 pub mod FreshLemmas
 pub mod GoesOnLemmas
 pub mod JobLemmas
-pub mod NewFileLemmas
 pub mod OfficeLemmas
 pub mod OpeningLemmas
 pub mod RoundLemmas

@@ -1,13 +1,11 @@
 -- Replies that were dropped do not meet the words of the contracts.
-use Rattle.std.proofs.Common.{◌≡◌, ◌∙◌, ◌⊎◌, ◌<◌, ℕ, Bool, true, false, List, [], ◌∷◌, ◌++◌, length, Option, Some, None, Result, Ok, Err, refl, sym, ap, subst, inl, inr, arith}
+use Rattle.std.proofs.Common.{◌≡◌, ◌∙◌, ◌⊎◌, ◌<◌, ℕ, Bool, List, [], ◌∷◌, length, Option, Some, None, Result, Ok, Err, refl, sym, ap, subst, inl, inr, arith}
 use Rattle.std.specs.Io.KnownBytes.{Appends, Keeps}
-use Rattle.index_io.specs.Counts.{HasFailed}
 use Rattle.index_desk.specs.Rules.{Rules, by_history, by_tables}
-use Rattle.index_message.specs.Requests.{HttpRequest}
 use Rattle.index_message.specs.declared.message.Message.{Message}
 use Rattle.index_message.specs.declared.message.Message.TheVariants.{Faulty, Whole}
 use Rattle.index_http.specs.Ends.{ReplyEnds}
-use Rattle.index_http.specs.Exchanges.{InputGetsText, MessageGetsText}
+use Rattle.index_http.specs.Exchanges.{MessageGetsText}
 use Rattle.index_http.specs.Replies.{Reply, head_text, message_reply, reply_head, reply_text}
 use Rattle.index_http.specs.Shows.{GivesMessage, asks_page}
 use Rattle.index_http.specs.declared.connection.IoEnd.{IoEnd}

@@ -1,5 +1,5 @@
 -- Wrong outcomes do not meet the words of the contracts.
-use Rattle.std.proofs.Common.{◌≡◌, ◌∙◌, ◌⊎◌, ◌+◌, ◌&&◌, ℕ, suc, Bool, true, false, Option, Some, Result, Ok, Err, refl, ap, inl, inr, List, [], length, arith}
+use Rattle.std.proofs.Common.{◌≡◌, ◌∙◌, ◌⊎◌, ◌+◌, ◌&&◌, ℕ, suc, Bool, true, false, Option, None, Some, Result, Ok, Err, refl, sym, ap, inl, inr, List, [], length, arith}
 use Rattle.std.specs.Prelude.{IfOk, IfErr, IsErrAnd, if◌then◌else◌, is_ok}
 use Rattle.sqlite.specs.Files.{image_of}
 use Rattle.sqlite.specs.Recovery.{Image}
@@ -14,6 +14,7 @@ use Rattle.index_cli.specs.Lines.{lines_of}
 use Rattle.index_rules.specs.FirstTables.{first_tables}
 use Rattle.index_rules.specs.Maps.{Bytes}
 use Rattle.index_rules.specs.Tables.{Tables}
+use Rattle.index.specs.declared.cause.Cause.{Cause}
 use Rattle.index.specs.declared.database.Finished.{Finished}
 use Rattle.index.specs.declared.database.Unclosed.{Unclosed}
 use Rattle.index.specs.declared.database.Unused.{Unused}
@@ -21,7 +22,7 @@ use Rattle.index.specs.declared.end.End.{End}
 use Rattle.index.specs.declared.end.End.TheVariants as end
 use Rattle.index.specs.Ends.{closing_of, end_by, end_of, end_of_serving, is_store}
 use Rattle.index.specs.Refuted.{HoldsNoIndex, RefutesConnections, RefutesInit, RefutesLines, RefutesTasks, RefutesWork}
-use Rattle.index.specs.Openings.{IsToldOf}
+use Rattle.index.specs.Openings.{IsCleanClosed, IsToldOf, cause_of_files}
 use Rattle.index.specs.Runs.{Created, DigestHas, InitEndsOnFiles, RunEndsOnFiles, HoldsNone, Ran}
 use Rattle.index.specs.Tasks.{AreAmong, Does, IsServingEnd, Task}
 use Rattle.index.proofs.RefutedLemmas.{came_fewer}
@@ -94,6 +95,17 @@ module _ {D : Type 0} (g : Ghosts D) where
   no_init user digits page_sums start clean some (Ok closed) ends done refused = no_made user digits start clean some closed ends.created done
   no_init user digits page_sums start clean some (Err it) ends done refused = absurd refused
 
+  not_allowed : (page_sums : Bool) (start : Image) (cause : Cause) (clean : (log db : D) → AreClean g log db) → cause_of_files page_sums start ≡ Some cause
+      → (closed : Result (Files D) (Unclosed D g)) → (IsCleanClosed closed → cause_of_files page_sums start ≡ None) → ¬ (Ok tt ≡ closing_of closed)
+  not_allowed page_sums start cause clean forbidden (Ok files) allowed is = let no : None ≡ Some cause = sym (allowed (clean files.log files.db)) ∙ forbidden in cc no
+  not_allowed page_sums start cause clean forbidden (Err unclosed) allowed is = let no : true ≡ false = ap (λ (it : Result (Unit {0}) End). is_ok it) is in cc no
+
+  no_forbidden_init : (user digits : Bytes) (page_sums : Bool) (start : Image) (cause : Cause) (clean : (log db : D) → AreClean g log db)
+      (forbidden : cause_of_files page_sums start ≡ Some cause) (run : Result (Result (Files D) (Unclosed D g)) (Unused D g)) → InitEndsOnFiles g user digits page_sums start run
+      → IfOk run (λ closed. Ok tt ≡ closing_of closed) → IfErr run (λ it. IsErrAnd {T = Unit {0}} (Ok tt) (IsToldOf it.why it.left)) → ⊥
+  no_forbidden_init user digits page_sums start cause clean forbidden (Ok closed) ends done refused = not_allowed page_sums start cause clean forbidden closed ends.allowed done
+  no_forbidden_init user digits page_sums start cause clean forbidden (Err it) ends done refused = absurd refused
+
   pub refutes_init : RefutesInit g
   refutes_init = record {
     created = not_anew;
@@ -102,6 +114,7 @@ module _ {D : Type 0} (g : Ghosts D) where
     anew = λ user digits page_sums start files clean some it. some (it.created clean).2.held;
     leads = λ user token start files emptied it. current_is_there _ _ (it.made emptied.0 (image_of g files) (inl refl)).1 emptied.1;
     comes = λ user digits page_sums start clean some it. no_init user digits page_sums start clean some it.run it.ends it.done it.refused;
+    forbidden = λ user digits page_sums start cause clean is it. no_forbidden_init user digits page_sums start cause clean is it.run it.ends it.done it.refused;
   }
 
 -- ---- what is said of a task

@@ -1,5 +1,5 @@
 -- Wrong replies to messages, to lines and on connections do not meet the words of the contracts.
-use Rattle.std.proofs.Common.{◌≡◌, ◌∙◌, ◌+◌, ◌<◌, ℕ, suc, Bool, true, false, List, [], ◌++◌, length, take, drop, Option, Some, None, Result, Ok, Err, refl, sym, ap, subst, inl, inr, arith, le_refl, length-take-le, take_all, take-append-drop, append-nil}
+use Rattle.std.proofs.Common.{◌≡◌, ◌∙◌, ◌<◌, ℕ, suc, Bool, true, false, List, [], ◌++◌, length, take, drop, Option, Some, None, Result, Ok, Err, refl, sym, ap, subst, inl, inr, arith, le_refl, length-take-le, take_all, take-append-drop, append-nil}
 use Rattle.std.specs.Io.KnownBytes.{Appends, Keeps}
 use Rattle.std.proofs.lemmas.List.{append_cancel_left}
 use Rattle.index_io.specs.Counts.{HasFailed}

@@ -1,6 +1,7 @@
 -- The cause of a failed database, or of an address that can't be listened on.
 use Rattle.std.specs.Prelude.{Bool, List, None, Option, Some, codes, false, find, if◌then◌else◌}
-use Rattle.std.specs.Prelude.{not, option_map, string_bytes, true, ℕ, ◌&&◌, ◌==◌, ◌≡◌, ◌⊎◌}
+use Rattle.std.specs.Prelude.{nat_le, not, option_map, string_bytes, true, ℕ, ◌+◌, ◌&&◌, ◌==◌}
+use Rattle.std.specs.Prelude.{◌≡◌, ◌⊎◌}
 use Rattle.std.specs.List.{list_any, starts_with}
 use Rattle.std.specs.Net.Grammar.{IsSocketText}
 use Rattle.std.specs.Str.Lossy.{utf8_lossy}
@@ -36,6 +37,19 @@ cause_of_calls tally may_be_used =
     else if not (tally.refused == 0) then Some cause.Full
     else if may_be_used then None
     else Some cause.DiskFailed
+
+-- A log of this length has room for its header and for a frame with the smallest page (SQLite's
+-- file format, section 4.1).
+abbrev pub log_with_a_page : ℕ
+log_with_a_page = 32 + (24 + 512)
+
+-- The cause that forbids to open a database file and its log of these lengths. With page sums the
+-- file must be new. An empty file beside a log that may hold pages was emptied or is another's.
+abbrev pub cause_of_lengths : Bool → ℕ → ℕ → Option Cause
+cause_of_lengths page_sums db log =
+    if page_sums && not (db == 0) then Some cause.NotNew
+    else if (db == 0) && nat_le log_with_a_page log then Some cause.Emptied
+    else None
 
 -- the cause of an error of the system at a path
 abbrev pub cause_of_kind : ErrorKind → Option Cause

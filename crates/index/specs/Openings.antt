@@ -42,7 +42,7 @@ use Rattle.index.specs.declared.database.Left.TheVariants as unused
 use Rattle.index.specs.declared.end.End.{End}
 use Rattle.index.specs.declared.end.End.TheVariants as end
 use Rattle.index.specs.declared.failed_opening.FailedOpening.{FailedOpening}
-use Rattle.index.specs.Causes.{SchemaHasCause, cause_of_calls, is_at_path}
+use Rattle.index.specs.Causes.{SchemaHasCause, cause_of_calls, cause_of_lengths, is_at_path}
 use Rattle.index.specs.Ends.{is_fault_end, is_store}
 
 -- the files recover to this database, and to no other
@@ -65,10 +65,16 @@ IsWhyNoFiles told =
     ⊎ ((found : Option Cause)
     × (told ≡ end.Store found) × IfSome found (λ it. IsTrue (is_at_path it))))
 
--- why two files were not opened as a new database with page sums: the database file is not empty
-abbrev pub IsWhyNotNew : Bool → Image → End → Type 0
-IsWhyNotNew page_sums start told =
-    IsTrue page_sums × (told ≡ end.Store (Some cause.NotNew)) × (0 < length start.db)
+-- the cause that forbids to open the two files, by their lengths
+abbrev pub cause_of_files : Bool → Image → Option Cause
+cause_of_files page_sums start =
+    cause_of_lengths page_sums (length start.db) (length start.log)
+
+-- why two files were not opened: their lengths forbid it
+abbrev pub IsWhyForbidden : Bool → Image → End → Type 0
+IsWhyForbidden page_sums start told =
+    (found : Cause) × (told ≡ end.Store (Some found))
+    × (cause_of_files page_sums start ≡ Some found)
 
 -- two files hold what they held, and no call on them failed since
 pub record AreAsFound {D : Type 0}
@@ -127,7 +133,7 @@ module _ {D : Type 0} {g : disk.Ghosts D} where
   abbrev pub IsWhyShut : Bool → Image → End → Option (Leftover D g) → Type 0
   IsWhyShut page_sums start told None = IsWhyNoFiles told
   IsWhyShut page_sums start told (Some left) =
-      IsCleanLeft left → IsWhyNoDatabase start left told ⊎ IsWhyNotNew page_sums start told
+      IsCleanLeft left → IsWhyNoDatabase start left told ⊎ IsWhyForbidden page_sums start told
 
   -- how the opening of files that held this ends, with page sums or without
   pub record OpeningEnds (page_sums : Bool) (start : Image)
@@ -136,6 +142,8 @@ module _ {D : Type 0} {g : disk.Ghosts D} where
     pub opened : IfOk result (IsOpenedOn start)
     pub sums : IfOk result (λ conn. HasCleanDisk (file_state conn)
         → HasSumsAs page_sums start conn)
+    pub allowed : IfOk result (λ conn. HasCleanDisk (file_state conn)
+        → cause_of_files page_sums start ≡ None)
     pub shut : IfErr result (λ e. IfSome e.left (CleanShutLeaves start))
     pub fault : IfErr result (λ e. IsTrue (is_fault_end e.why))
     -- the error of SQLite, or what is found at the path

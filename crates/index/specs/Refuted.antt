@@ -1,7 +1,7 @@
 -- Wrong outcomes that the contracts exclude: a program that did nothing, or the wrong thing, could
 -- not be proved.
 use Rattle.std.specs.Prelude.{◌≡◌, ◌⊎◌, ℕ, suc, Bool, true, false, List, [], length, Option, Some}
-use Rattle.std.specs.Prelude.{Result, Ok, Err}
+use Rattle.std.specs.Prelude.{Result, Ok, Err, IsTrue, nat_le}
 use Rattle.sqlite.specs.declared.file.Leftover.{Leftover}
 use Rattle.sqlite.specs.declared.file.Leftover.TheVariants as leftover
 use Rattle.sqlite.specs.declared.FileStore.{FileStore}
@@ -19,13 +19,15 @@ use Rattle.index_cli.specs.Lines.{lines_of}
 use Rattle.index_desk.specs.Checks.{wrong_charges_in}
 use Rattle.index_rules.specs.Maps.{Bytes}
 use Rattle.index_rules.specs.Tables.{Tables}
+use Rattle.index.specs.declared.cause.Cause.{Cause}
 use Rattle.index.specs.declared.cause.Cause.TheVariants as cause
 use Rattle.index.specs.declared.end.End.{End}
 use Rattle.index.specs.declared.end.End.TheVariants as end
+use Rattle.index.specs.Causes.{log_with_a_page}
 use Rattle.index.specs.Chains.{InitLeadsOn, WorkLeadsOn}
 use Rattle.index.specs.Ends.{is_fault_end}
 use Rattle.index.specs.Jobs.{ComesOfInit, ComesOfRun}
-use Rattle.index.specs.Openings.{HoldsSome, OpeningEnds}
+use Rattle.index.specs.Openings.{HoldsSome, OpeningEnds, cause_of_files}
 use Rattle.index.specs.Runs.{Created, CreatedInLog, Holds, HoldsNone, InitEndsOnFiles}
 use Rattle.index.specs.Runs.{Interrupted, Ran, RunEndsOnFiles}
 use Rattle.index.specs.Tasks.{AnswersConnections, AnswersFirstConnections, AnswersFirstLines}
@@ -76,6 +78,10 @@ pub record RefutesInit {D : Type 0} (g : Ghosts D) : Type 0 where
   pub comes : (user digits : Bytes) (page_sums : Bool) (start : Image)
       → ((log db : D) → AreClean g log db)
       → (¬ HoldsNone start) → ¬ ComesOfInit g user digits page_sums start (Ok tt)
+  -- the lengths of the files forbid it
+  pub forbidden : (user digits : Bytes) (page_sums : Bool) (start : Image) (cause : Cause)
+      → ((log db : D) → AreClean g log db) → cause_of_files page_sums start ≡ Some cause
+      → ¬ ComesOfInit g user digits page_sums start (Ok tt)
 
 -- no opening of two files ends in one of these wrong ways
 pub record RefutesOpening {D : Type 0} (g : Ghosts D) : Type 0 where
@@ -85,6 +91,11 @@ pub record RefutesOpening {D : Type 0} (g : Ghosts D) : Type 0 where
   -- the connection has a database that the files do not hold
   pub found : (page_sums : Bool) (start : Image) (conn : Held (FileStore D g))
       → HasCleanDisk (file_state conn) → (¬ FindsIn start (file_state conn))
+      → ¬ OpeningEnds {g = g} page_sums start (Ok conn)
+  -- a log that may hold the last changes of an empty file was opened, and so emptied
+  pub emptied : (page_sums : Bool) (start : Image) (conn : Held (FileStore D g))
+      → HasCleanDisk (file_state conn) → length start.db ≡ 0
+      → IsTrue (nat_le log_with_a_page (length start.log))
       → ¬ OpeningEnds {g = g} page_sums start (Ok conn)
   -- the files were not opened, for a reason that is no fault
   pub kind : (page_sums : Bool) (start : Image) (told : End) (left : Option (Leftover D g))

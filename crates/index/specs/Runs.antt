@@ -32,6 +32,7 @@ use Rattle.index.specs.declared.database.Unused.{Unused}
 use Rattle.index.specs.declared.end.End.TheVariants as end
 use Rattle.index.specs.Ends.{is_fault_end}
 use Rattle.index.specs.Openings.{HasSumsAs, HoldsOnly, IsBadFirstUserByHex, IsCleanClosed}
+use Rattle.index.specs.Openings.{cause_of_files}
 use Rattle.index.specs.Openings.{IsOpenedOn, IsUnfound, IsUnmade, IsWhyUnfound, IsWhyUnmade}
 use Rattle.index.specs.Openings.{IsWhyUnused, UnusedLeaves}
 use Rattle.index.specs.Tasks.{Does, TaskMayLeave, Task, TaskTells}
@@ -167,6 +168,9 @@ pub record InitEndsOnFiles {D : Type 0}
   -- the index was made on a connection whose pages end in sums, if these were asked for
   pub sums : IfOk result (λ closed. IsCleanClosed closed
       → (first : Held (FileStore D g)) × IsOpenedOn start first × HasSumsAs page_sums start first)
+  -- the lengths of the files allowed it
+  pub allowed : IfOk result (λ closed. IsCleanClosed closed
+      → cause_of_files page_sums start ≡ None)
   -- a refused database is as it was
   pub refused : IfErr result (λ it. IfSome it.left (λ left.
       DigestHas digits (λ digest. UnusedLeaves (IsUnmade (first_tables user digest)) start left)))
