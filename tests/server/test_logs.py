@@ -123,19 +123,6 @@ class TestDamaged:
             assert bytes_of(f"{index.path}-wal") == before
 
 
-def test_a_log_beside_an_emptied_database_is_kept(logs):
-    """The program drops it: all that was acknowledged since it was copied in, though the database may be elsewhere."""
-    db, other = logs.copy(), logs.copy()
-    for it in (db, other):
-        os.truncate(it, 0)
-    before = both(db)
-    assert_ends(logs.report(db), 3, "the database is empty; all of", "acknowledged commits would be dropped")
-    assert both(db) == before and kept(db) == [before]
-    assert logs.names(other) is None and both(other)[1] != before[1]
-    assert_ends(logs.log("--accept", db), 0, "cut there")
-    assert_ends(logs.log(db), 0, "no commit")
-
-
 def test_nothing_is_accepted_of_a_sound_log(logs):
     db = logs.copy()
     before = both(db)

@@ -179,15 +179,6 @@ def test_a_look_changes_nothing_and_tells(tmp_path, monkeypatch, capsys):
     assert damaged.now() == DAMAGED_LOG and not damaged.kept()
 
 
-@pytest.mark.parametrize("log, status", [(SOUND_LOG, 3), (b"", 0), (None, 0)])
-def test_a_log_with_commits_beside_an_empty_database_would_be_dropped(tmp_path, monkeypatch, capsys, log, status):
-    files = Files(tmp_path, log)
-    os.truncate(files.db, 0)
-    ended, _, err = ends(LOG, monkeypatch, capsys, files.db)
-    said = f"index-log: {files.db}-wal: the database is empty; all of 3 acknowledged commits would be dropped\n"
-    assert (ended, err) == (status, said if status else "")
-
-
 def test_to_accept_a_sound_log_changes_nothing(tmp_path, monkeypatch, capsys):
     files = Files(tmp_path, SOUND_LOG)
     said = ends(LOG, monkeypatch, capsys, "--accept", files.db)

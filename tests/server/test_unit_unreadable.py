@@ -71,9 +71,8 @@ def test_names_that_can_not_be_put_back_stay_where_they_are(files, unreadable):
     (lambda it: RESTORE.Pypi(it.db).take_off(), "index.db"),
     (lambda it: RESEAL.copy_locked(it.db, f"{it.folder}/sealed.db"), "index.db-wal"),
     (lambda it: LOG.look_at(it.db, [], False), "index.db-wal"),
-    (lambda it: LOG.look_at(it.db, ["true"], False), "index.db"),
     (lambda it: database.size_of(it.db, ("", "-wal")), "index.db-wal")],
-    ids=["log_of_copy", "is_complete", "lock", "pypi", "reseal", "log", "database_of_log", "size"])
+    ids=["log_of_copy", "is_complete", "lock", "pypi", "reseal", "log", "size"])
 def test_a_file_that_can_not_be_seen_is_not_passed_over(files, unreadable, monkeypatch, does, end):
     for module in (RESTORE, RESEAL):
         monkeypatch.setattr(module, "run", lambda *_: "")
