@@ -193,15 +193,19 @@ def page_of(url: str, found: Overview, cases: Sequence[CaseRow], now: int) -> It
 
 
 def put_whole(path: str, pieces: Iterable[str], is_synced: bool = True) -> None:
-    """Writes a file as a whole or not at all: beside it first, and then in its place."""
+    """Writes a file as a whole or not at all: beside it first, and then in its place. Who else may write this folder
+    may have put a link beside it: nothing is written through that."""
     part = f"{path}.part"
     try:
-        with open(part, "w", encoding="utf-8") as out:
+        with suppress(FileNotFoundError):
+            os.remove(part)
+        with open(part, "x", encoding="utf-8") as out:
+            # Windows has no modes to set, and takes a path alone
+            os.chmod(out.fileno() if os.chmod in os.supports_fd else part, 0o644)
             out.writelines(pieces)
             out.flush()
             if is_synced:
                 os.fsync(out.fileno())
-        os.chmod(part, 0o644)
         os.replace(part, path)
     except BaseException as end:
         with suppress(OSError):

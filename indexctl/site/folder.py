@@ -24,13 +24,18 @@ except ImportError:
 KEPT, PROJECTS = ".wheels.json", "projects"
 
 
+def open_itself(path: str, flags: int) -> int:
+    """Opens a file that is not a link: who else may write this folder may have made one, to a file of yours."""
+    return os.open(path, flags | getattr(os, "O_NOFOLLOW", 0), 0o666)
+
+
 @contextmanager
 def kept_in(folder: str) -> Iterator[Dict[str, About]]:
     """What wheels said in the run before. A second run of the same folder waits for the first."""
     path = os.path.join(folder, KEPT)
     if os.listdir(folder) and not os.path.exists(path):
         raise Stop(WRONG, f"{folder} has files of something else. Name an empty folder, or that of the pages.")
-    with open(path, "a+", encoding="utf-8", errors="replace") as file:
+    with open(path, "a+", encoding="utf-8", errors="replace", opener=open_itself) as file:
         if fcntl:
             fcntl.flock(file, fcntl.LOCK_EX)
         file.seek(0)
@@ -56,6 +61,8 @@ def put_pages(folder: str, url: str, projects: Sequence[Project]) -> int:
     """Writes all pages, and gives how many changed. The list comes after the pages to which it leads, and before those
     go to which it leads no more. So each link leads somewhere, wherever a run ends."""
     inner = os.path.join(folder, PROJECTS)
+    if os.path.islink(inner):
+        raise Stop(WRONG, f"{inner} is a link: pages of another folder would be removed. Put a folder there.")
     os.makedirs(inner, exist_ok=True)
     own = {f"{it.standing.name}.html": it for it in projects}
     changed = [put_changed(os.path.join(folder, name), text) for name, text in (

@@ -218,6 +218,23 @@ def test_a_page_is_put_whole_where_everybody_reads_it(tmp_path):
     assert os.listdir(tmp_path) == ["index.html"]
 
 
+def test_a_link_beside_a_page_leads_nowhere(tmp_path):
+    path, mine = tmp_path / "index.html", tmp_path / "mine"
+    mine.write_text("mine")
+    mine.chmod(0o600)
+    (tmp_path / "index.html.part").symlink_to(mine)
+    page.put_whole(str(path), ["text"])
+    assert (mine.read_text(), mine.stat().st_mode & 0o777) == ("mine", 0o600)
+    assert path.read_text() == "text" and not path.is_symlink()
+
+
+def test_a_page_beside_which_a_file_can_t_be_removed_is_not_written(tmp_path):
+    (tmp_path / "x.part").mkdir()
+    with pytest.raises(Stop, match="x can't be written: "):
+        page.put_whole(str(tmp_path / "x"), ["text"])
+    assert os.listdir(tmp_path) == ["x.part"]
+
+
 def test_a_page_is_on_the_disk_before_it_is_in_its_place(tmp_path, monkeypatch):
     steps, sync, replace = [], os.fsync, os.replace
     monkeypatch.setattr(os, "fsync", lambda file: steps.append("sync") or sync(file))

@@ -195,7 +195,7 @@ def test_the_list_is_written_between_the_new_pages_and_the_old_ones(tmp_path, mo
     monkeypatch.setattr(os, "replace", lambda one, two: steps.append(os.path.basename(two)) or replace(one, two))
     monkeypatch.setattr(os, "remove", lambda path: steps.append(f"-{os.path.basename(path)}") or remove(path))
     assert folder.put_pages(str(tmp_path), "https://h", [project(name="new")]) == 3
-    assert steps == ["new.html", "index.html", "-old.html"]
+    assert [it for it in steps if not it.endswith(".part")] == ["new.html", "index.html", "-old.html"]
 
 
 def test_what_wheels_said_is_kept_between_runs(tmp_path):
@@ -213,6 +213,23 @@ def test_what_was_kept_and_is_spoilt_is_left_out(tmp_path):
     (tmp_path / ".wheels.json").write_bytes(b"\xff{")
     with folder.kept_in(str(tmp_path)) as kept:
         assert kept == {}
+
+
+def test_a_link_in_the_place_of_what_was_kept_leads_nowhere(tmp_path):
+    (tmp_path / "mine").write_text("mine")
+    (tmp_path / ".wheels.json").symlink_to(tmp_path / "mine")
+    with pytest.raises(OSError, match="symbolic links"), folder.kept_in(str(tmp_path)):
+        pass
+    assert (tmp_path / "mine").read_text() == "mine"
+
+
+def test_a_link_in_the_place_of_the_pages_removes_no_others(tmp_path):
+    (tmp_path / "mine").mkdir()
+    (tmp_path / "mine" / "x.html").write_text("mine")
+    (tmp_path / "projects").symlink_to(tmp_path / "mine")
+    with pytest.raises(Stop, match="projects is a link"):
+        folder.put_pages(str(tmp_path), "https://h", [])
+    assert os.listdir(tmp_path / "mine") == ["x.html"]
 
 
 def test_without_a_folder_nothing_is_asked_for(tmp_path, monkeypatch):
