@@ -2,6 +2,7 @@
 from __future__ import annotations
 
 import argparse
+import shlex
 from typing import Sequence
 
 from indexctl.changes import Desk
@@ -33,11 +34,12 @@ def change_name(args: argparse.Namespace, what: str, do: str, **row: object) -> 
 
 
 def tell_uncache(project: str, files: Sequence[str]) -> None:
-    """Prints the commands that take these files out of what nginx has cached."""
+    """Prints the commands that take these files out of what nginx has cached, for a shell: it has a meaning of its own
+    for the `!` that a version may have."""
     if files:
         note("On the server, take out of nginx what it has cached:")
     for file in files:
-        say(f"index-uncache {project} {file}")
+        say(f"index-uncache {project} {shlex.quote(file)}")
 
 
 @command("name claim", "claims names that nobody holds", NAMES)

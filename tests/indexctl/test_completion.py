@@ -2,6 +2,7 @@
 from __future__ import annotations
 
 import os
+import pty
 import socket
 import subprocess
 import sys
@@ -110,3 +111,21 @@ def test_no_text_of_a_server_becomes_a_command(bash):
     names = [{"name": it} for it in ("fro$(touch /tmp/x)", "fro`id`", "fro;id", "fro b", "frob", "fro'", "fro\n-x")]
     with scripted(always(*as_json({"meta": {}, "projects": names}))) as server:
         assert bash.offers(["who", "fro"], INDEX_URL=server.url, PATIENCE="30") == ["frob"]
+
+
+def test_a_file_whose_name_is_a_command_is_quoted(tmp_path):
+    """A person completes it, and presses Enter."""
+    (tmp_path / "a$(touch run) b.db").write_text("")
+    keys = (f"source {TOP}/indexctl/index.bash-completion\nindex() {{ printf '%s\\n' \"$@\" > said; }}\n"
+            "index serve --db a\t\nexit\n")
+    ours, its = pty.openpty()
+    try:
+        os.write(ours, keys.encode())
+        subprocess.run(["bash", "--norc", "--noprofile", "-i"], stdin=its, stdout=its, stderr=its, cwd=tmp_path,
+                       timeout=60, check=True, start_new_session=True,
+                       env=environment(HOME=str(tmp_path), TERM="xterm"))
+    finally:
+        os.close(ours)
+        os.close(its)
+    assert (tmp_path / "said").read_text() == "serve\n--db\na$(touch run) b.db\n"
+    assert not (tmp_path / "run").exists()

@@ -248,6 +248,12 @@ def test_a_file_that_is_gone_is_to_leave_the_cache(run, capsys, verb):
     assert "On the server" in out.err
 
 
+@pytest.mark.parametrize("file", ["frob-1!2.0.tar.gz", "frob-1!!2-py3-none-any.whl"])
+def test_a_version_with_an_epoch_is_no_command_of_a_shell(run, capsys, file):
+    run.asked("file", "delete", file)
+    assert capsys.readouterr().out == f"index-uncache frob '{file}'\n"
+
+
 @pytest.mark.parametrize("words", [("name", "prohibit", "a"), ("file", "ban", "a-1.tar.gz"),
                                    ("file", "delete", "a-1.tar.gz")])
 def test_what_was_refused_leaves_the_cache(run, capsys, words):
