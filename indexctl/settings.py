@@ -95,7 +95,7 @@ def parts_of_url(url: str, what: str) -> urllib.parse.SplitResult:
     except ValueError as end:
         raise Stop(WRONG, f"{what} is {shown!r}. Write an address such as https://packages.example.") from end
     is_whole = parts.scheme in ("http", "https") and is_host(parts.hostname or "")
-    if not is_whole or not parts.hostname or parts.path.strip("/") or parts.query:
+    if not is_whole or not parts.hostname or parts.path.strip("/") or parts.query or parts.fragment:
         raise Stop(WRONG, f"{what} is {shown!r}, not an address such as https://packages.example, without a path.")
     if parts.scheme == "http" and not is_loopback(parts.hostname):
         raise Stop(WRONG, f"{what} has to be https: a token is a password, and would cross the network in the clear.")
