@@ -8,14 +8,24 @@ import xml.etree.ElementTree as ElementTree
 
 import pytest
 from support.needed import want_command
-from support.places import BIN
+from support.places import BIN, SERVER
 from support.running import run_command
 from support.server.cluster import DUMPED, FILE, Cluster, cib, switch
 from support.server.stand_ins import called, stand_ins
 from support.server.two_machines import FILES, SHOWN
+from support.two_machines.page import BLOCK
 
 LOADED = ["crm configure load update {file}"]
 REACHED = ["crm_resource --resource power-one --locate", "crm_resource --resource power-two --locate"]
+
+
+def test_the_copy_for_the_passwords_of_the_switches_is_root_s_alone(folder, looked):
+    with open(f"{SERVER}/two-machines/README.md", encoding="utf-8") as kept:
+        block, = [it for it in BLOCK.findall(kept.read()) if "cp --no-clobber" in it]
+    path = stand_ins(f"{folder}/bin", **{"index-cluster": "exit 0"})
+    block = block.replace("/usr/share/package-index", SERVER).replace("/etc/drbd.d", folder)
+    subprocess.run(["sh", "-c", f"umask 022\n{block}"], check=True, env={**os.environ, "PATH": path})
+    looked(os.stat(f"{folder}/index.crm").st_mode & 0o777 == 0o600, block)
 
 
 @pytest.fixture
