@@ -5,10 +5,10 @@ import itertools
 from dataclasses import dataclass
 from typing import Any, Dict, List, Optional, Sequence, Tuple
 
-from indexctl.standings import find_page, is_number
+from indexctl.standings import find_page, is_number, page_of_project
 from indexctl.transport import Index
 from indexctl.versions import order
-from package_index.names import normal, read_file_name
+from package_index.names import read_file_name
 
 
 @dataclass(frozen=True)
@@ -48,7 +48,7 @@ def file_row(found: Dict[str, Any]) -> FileRow:
 
 def find_contents(index: Index, name: str, is_fresh: bool = False) -> Optional[List[FileRow]]:
     """The files of a name by their releases, the newest first; None if nobody holds the name."""
-    found = find_page(index, f"/simple/{normal(name)}/", "files", "filename", is_fresh)
+    found = find_page(index, page_of_project(name), "files", "filename", is_fresh)
     if found is None:
         return None
     rows = sorted(map(file_row, found["files"]), key=lambda it: it.file)

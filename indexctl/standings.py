@@ -101,6 +101,10 @@ def path_of(name: str) -> str:
     return f"/names/{urllib.parse.quote(name, safe='')}"
 
 
+def page_of_project(name: str) -> str:
+    return f"/simple/{urllib.parse.quote(normal(name), safe='')}/"
+
+
 def find_standing(index: Index, name: str) -> Standing:
     """How a name stands."""
     reply = index.ask(name, Request("GET", path_of(name)))
@@ -133,8 +137,9 @@ def find_page(index: Index, path: str, rows: str, key: str, is_fresh: bool = Fal
 
 def find_files(index: Index, name: str) -> Tuple[List[str], List[str]]:
     """The names of a project's files, and its releases."""
-    found = find_page(index, f"/simple/{normal(name)}/", "files", "filename") or {"files": []}
-    return [it["filename"] for it in found["files"]], [str(it) for it in found.get("versions", [])]
+    found = find_page(index, page_of_project(name), "files", "filename") or {"files": []}
+    versions = found.get("versions")
+    return [it["filename"] for it in found["files"]], list(map(str, versions if isinstance(versions, list) else ()))
 
 
 def side_by_side(function: Callable[[Sequence[Item]], List[Result]], items: Sequence[Item],

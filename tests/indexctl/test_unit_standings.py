@@ -98,6 +98,19 @@ def test_a_project_that_is_not_there_has_none():
     assert standings.find_files(FakeIndex(as_reply(404, {"name": "NoProject"})), "a") == ([], [])
 
 
+@pytest.mark.parametrize("versions", [None, 1, "1", {}])
+def test_a_project_of_a_page_of_another_kind_has_no_releases(versions):
+    index = FakeIndex(as_reply(200, {"files": [], "versions": versions}))
+    assert standings.find_files(index, "a") == ([], [])
+
+
+@pytest.mark.parametrize("name, path", [("\u00e4", "%C3%A4"), ("a b", "a%20b"), ("../x", "-%2Fx"),
+                                        ("a\r\nb", "a%0D%0Ab")])
+def test_a_name_that_is_none_is_asked_for_by_a_path(name, path):
+    index = FakeIndex(as_reply(200, {"files": []}))
+    assert standings.find_files(index, name) == ([], []) and index.asked[0].path == f"/simple/{path}/"
+
+
 def side_by_side(function, items):
     """What a function gives for each item."""
     return standings.side_by_side(lambda some: [function(it) for it in some], items, "x")
