@@ -30,10 +30,15 @@ def check_names(*names: str) -> None:
                               "a letter or digit at both ends.")
 
 
+def is_text(text: str) -> bool:
+    """Whether a text has whole characters alone. JSON and the environment may have halves, which no coding takes."""
+    return text.isascii() or not any("\ud800" <= it <= "\udfff" for it in text)
+
+
 def check_texts(*texts: str) -> None:
     """Stops unless each is text: Python keeps bytes that are none by the locale, and no index takes them."""
     for text in texts:
-        if any("\ud800" <= it <= "\udfff" for it in text):
+        if not is_text(text):
             raise Stop(WRONG, f"{text!r} has bytes that are no text in the coding of your locale. Write it in that, or "
                               "set LANG, as to C.UTF-8.")
 

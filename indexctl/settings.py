@@ -11,6 +11,7 @@ from dataclasses import dataclass
 from typing import Dict, Mapping, Optional, Tuple
 
 from indexctl.ends import WRONG, Stop
+from indexctl.names import is_text
 
 PROFILES = "~/.config/indexctl.ini"
 KEYS = ("url", "token-file", "ca", "record", "user", "password-file")
@@ -94,7 +95,7 @@ def parts_of_url(url: str, what: str) -> urllib.parse.SplitResult:
         _ = parts.port
     except ValueError as end:
         raise Stop(WRONG, f"{what} is {shown!r}. Write an address such as https://packages.example.") from end
-    is_whole = parts.scheme in ("http", "https") and is_host(parts.hostname or "")
+    is_whole = parts.scheme in ("http", "https") and is_host(parts.hostname or "") and is_text(url)
     if not is_whole or not parts.hostname or parts.path.strip("/") or parts.query or parts.fragment:
         raise Stop(WRONG, f"{what} is {shown!r}, not an address such as https://packages.example, without a path.")
     if parts.scheme == "http" and not is_loopback(parts.hostname):

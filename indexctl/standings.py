@@ -11,6 +11,7 @@ from dataclasses import dataclass, field
 from typing import Any, Callable, Dict, Iterator, List, Optional, Sequence, Tuple, TypeVar, get_type_hints
 
 from indexctl.ends import REFUSED, WRONG, Stop
+from indexctl.names import is_text
 from indexctl.terminal import Progress
 from indexctl.transport import JSON_PAGE, Index, Request, foreign, object_of
 from package_index.hints import hint
@@ -130,7 +131,7 @@ def find_page(index: Index, path: str, rows: str, key: str, is_fresh: bool = Fal
     listed = found.get(rows)
     if reply.status != 200 or not isinstance(listed, list):
         raise foreign(path, reply)
-    if not all(isinstance(it, dict) and isinstance(it.get(key), str) for it in listed):
+    if not all(isinstance(it, dict) and isinstance(it.get(key), str) and is_text(it[key]) for it in listed):
         raise foreign(path, reply)
     return found
 

@@ -104,7 +104,7 @@ def test_an_address_is_shown_without_its_password(url, shown):
 
 @pytest.mark.parametrize("url", [
     "packages.example", "ftp://packages.example", "https://", "https://h/simple", "https://h?x", "https://h:x",
-    "https://ann:1#w@h", "https://h/#x",
+    "https://ann:1#w@h", "https://h/#x", "https://ann:\udcff@h",
     "https://h:70000", "https://[::", "http://packages.example", "http://10.0.0.1", "https://h..example",
     f"https://{'h' * 64}", "https://h h", "https://h ", "https://h\\h", "https://h\udcf6"])
 def test_what_is_no_address_of_an_index_is_refused(url):

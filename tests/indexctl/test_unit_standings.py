@@ -104,6 +104,12 @@ def test_a_project_of_a_page_of_another_kind_has_no_releases(versions):
     assert standings.find_files(index, "a") == ([], [])
 
 
+@pytest.mark.parametrize("name", ["\ud800", "a\udfffb"])
+def test_a_name_that_is_no_text_is_no_name_of_an_index(name):
+    with pytest.raises(Stop, match="This is no answer of an index"):
+        standings.listed_names(FakeIndex(as_reply(200, {"projects": [{"name": "a"}, {"name": name}]})))
+
+
 @pytest.mark.parametrize("name, path", [("\u00e4", "%C3%A4"), ("a b", "a%20b"), ("../x", "-%2Fx"),
                                         ("a\r\nb", "a%0D%0Ab")])
 def test_a_name_that_is_none_is_asked_for_by_a_path(name, path):
