@@ -20,7 +20,6 @@ NO_DATABASE, OBJECT = "no database that this program can read", "an object that 
 UTF_16 = "PRAGMA encoding = 'UTF-16le'"
 OTHER_TABLES = "tables that are not as an index has them"
 NOT_NEW = "not new, and only a new file gets page sums"
-EMPTIED = "empty, but the log beside it is not"
 INITS = "init", SUMS
 MORE = {"an index": ("frob", "CREATE INDEX frob ON names (shown)"), "statistics": ("sqlite_stat1", "ANALYZE"),
         "a table": ("notes", "CREATE TABLE notes (id INTEGER PRIMARY KEY, note TEXT)"),
@@ -243,44 +242,6 @@ def test_the_logs_of_two_new_files_with_page_sums_have_other_salts(program, end,
             index.claim("frob")
             served.add(salts_of_log(path))
     looked(len(made) == len(served) == 2 and {len(it) for it in made | served} == {8}, made, served)
-
-
-# a file that was emptied or moved away, while its log may hold the last changes
-
-@pytest.fixture
-def lost(program, path):
-    """An index that a signal ended: what it acknowledged last is in its log alone."""
-    with Index(program, path=path) as index:
-        index.claim("frob")
-    assert b"frob" not in read(path)
-    return path
-
-
-def test_an_emptied_file_beside_its_log_is_refused_and_both_stay(refused, end, lost):
-    whole, log = read(lost), read(f"{lost}-wal")
-    empty_file(lost)
-    refused(lost, EMPTIED, PATHS)
-    assert read(f"{lost}-wal") == log
-    write(lost, whole)
-    assert b"frob" in end("report", "--db", lost).output
-
-
-@pytest.mark.parametrize("job", INITS)
-def test_init_keeps_the_log_of_a_file_that_was_moved_away(end, lost, folder, job):
-    log = read(f"{lost}-wal")
-    os.rename(lost, f"{folder}/moved.db")
-    assert end(*words_of(job, lost)) == End(1, b"", f"index: Store\nindex: {lost}: {EMPTIED}\n".encode())
-    assert read(f"{lost}-wal") == log
-    os.rename(f"{folder}/moved.db", lost)
-    assert b"frob" in end("report", "--db", lost).output
-
-
-@pytest.mark.parametrize("job", INITS)
-@pytest.mark.parametrize("length, is_made", [(0, True), (41, True), (567, True), (568, False)])
-def test_init_beside_a_log_that_has_room_for_a_page(end, path, job, length, is_made):
-    """A log begins with 32 bytes, and each page in it, of 512 bytes or more, with 24."""
-    write(f"{path}-wal", bytes(length))
-    assert end(*words_of(job, path)).output == (b"created\n" if is_made else b"")
 
 
 # first users, schemas, rights
