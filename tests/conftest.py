@@ -7,6 +7,7 @@ import sys
 import tempfile
 
 import pytest
+from hypothesis import HealthCheck, settings
 
 sys.dont_write_bytecode = True
 from support import durations
@@ -16,12 +17,16 @@ from support.places import is_program
 MEMORY = "/dev/shm"
 # of what is random, so many rounds are not slow
 QUICK_ROUNDS = 3
+# of properties: a busy machine may stop any example for a second, and what one run has found is not another's
+settings.register_profile("index", deadline=None, database=None, suppress_health_check=[HealthCheck.too_slow])
+settings.load_profile("index")
 
 
 def pytest_addoption(parser):
     add_options(parser)
 
 
+@pytest.hookimpl(tryfirst=True)
 def pytest_configure(config):
     # as they are for what is started in the background or by nohup: what tests start could never be interrupted
     if signal.getsignal(signal.SIGINT) == signal.SIG_IGN:
@@ -31,6 +36,8 @@ def pytest_configure(config):
     # each worker of xdist draws a seed of its own otherwise
     given = getattr(config, "workerinput", {})
     config.seed = given.get("seed", config.option.seed)
+    # what hypothesis reads behind this
+    config.option.hypothesis_seed = config.option.hypothesis_seed or str(config.seed)
     # and reads the command line again, which does not have what is set below for the controller
     config.option.loadgroup = given.get("dist") == "loadgroup"
     config.looked, config.ended = 0, {"passed": 0, "failed": 0, "skipped": 0}

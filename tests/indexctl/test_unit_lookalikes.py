@@ -87,7 +87,7 @@ def joined(pairs):
     return {frozenset(it) for it in group.values()}
 
 
-@settings(deadline=None, max_examples=300)
+@settings(max_examples=300)
 @given(st.sets(st.text("ab1", min_size=1, max_size=14), max_size=40)
        | st.sets(st.text("abcdefg2", min_size=1, max_size=30)))
 def test_texts_that_share_parts_are_joined_as_all_are(texts):

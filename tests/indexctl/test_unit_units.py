@@ -3,7 +3,7 @@ import datetime
 import re
 
 import pytest
-from hypothesis import HealthCheck, given, settings
+from hypothesis import given
 from hypothesis import strategies as st
 from indexctl import units
 from indexctl.ends import WRONG, Stop
@@ -38,7 +38,6 @@ def test_a_size_in_words(size, text):
 
 
 @given(st.integers(0, 1 << 60))
-@settings(database=None, deadline=None, suppress_health_check=[HealthCheck.too_slow])
 def test_a_size_in_words_is_near_the_size(size):
     number, unit = units.human(size).split(" ")
     factor = {"B": 1, "KiB": 1 << 10, "MiB": 1 << 20, "GiB": 1 << 30, "TiB": 1 << 40}[unit]
@@ -93,7 +92,6 @@ def test_what_is_no_moment_is_refused(text):
 
 
 @given(st.integers(0, 250_000_000_000 // 60).map(lambda minutes: 60 * minutes))
-@settings(database=None, deadline=None, suppress_health_check=[HealthCheck.too_slow])
 def test_a_moment_in_words_is_the_moment(seconds):
     assert units.read_moment(units.moment(seconds).replace(" UTC", "+00:00")) == seconds
     assert units.due(seconds) == units.moment(seconds) == units.due(seconds - 59)

@@ -10,13 +10,12 @@ import sys
 import types
 
 import pytest
-from hypothesis import HealthCheck, given, settings
+from hypothesis import given
 from hypothesis import strategies as st
 from support.library import commands, database, disk, ends
 from support.places import SERVER
 
 MIB = 1 << 20
-EVEN = settings(database=None, deadline=None, suppress_health_check=[HealthCheck.too_slow])
 
 
 @pytest.mark.parametrize("written, needed", [
@@ -157,7 +156,6 @@ def plain_sum(big, start, data):
     return first, second
 
 
-@EVEN
 @given(st.booleans(), st.tuples(*[st.integers(0, 2 ** 32 - 1)] * 2), st.lists(st.binary(min_size=8, max_size=8)))
 def test_a_sum_is_that_of_sqlites_page(big, start, words):
     assert database.sum_of(big, start, b"".join(words)) == plain_sum(big, start, b"".join(words))

@@ -1,14 +1,16 @@
 """Names by the grammar of the programs, beside the model of the tests, which has one of its own."""
 import datetime
+import zoneinfo
 
 import pytest
-from hypothesis import HealthCheck, given, settings
+from hypothesis import example, given
 from hypothesis import strategies as st
 from support.library import database, hints, names
 from support.model import names as model
 
-EPOCH = datetime.datetime(1970, 1, 1)
-EVEN = settings(database=None, deadline=None, max_examples=100, suppress_health_check=[HealthCheck.too_slow])
+EPOCH, LAST_DAY = datetime.datetime(1970, 1, 1), datetime.datetime(9999, 12, 30)
+# here the clock goes from 2 to 3 in a night of March, and from 2 back to 1 in one of November
+NEW_YORK = zoneinfo.ZoneInfo("America/New_York")
 # what names are made of, with what is none of it, so that a slip at either end of a class shows
 SIGNS = st.sampled_from("aZ09._-+!é \n/")
 TEXTS = st.text(SIGNS, max_size=12)
@@ -17,32 +19,27 @@ FILES = st.builds(lambda parts, end: "-".join(parts) + end, st.lists(PARTS, min_
                   st.sampled_from([".whl", ".tar.gz", ".whlx", ".zip", ""]))
 
 
-@EVEN
 @given(TEXTS)
 def test_a_name_is_read_as_the_model_reads_it(text):
     assert (names.normal(text) if names.is_name(text) else None) == model.read_name(text)
 
 
-@EVEN
 @given(TEXTS)
 def test_a_version_is_read_as_the_model_reads_it(text):
     assert (text.lower() if names.is_version(text) else None) == model.read_release(text)
 
 
-@EVEN
 @given(st.one_of(FILES, TEXTS))
 def test_a_file_name_is_read_as_the_model_reads_it(text):
     found = names.read_file_name(text)
     assert (found and (found.project, found.release)) == model.read_file_name(text)
 
 
-@EVEN
 @given(TEXTS)
 def test_a_user_is_read_as_the_model_reads_it(text):
     assert names.is_user(text) == model.is_user_id(text)
 
 
-@EVEN
 @given(TEXTS)
 def test_a_normal_form_is_its_own(text):
     assert names.normal(names.normal(text)) == names.normal(text)
@@ -95,10 +92,14 @@ def test_a_copy_tells_its_moment_by_its_name(copy, moment):
     assert (found and found.isoformat()) == moment
 
 
-@EVEN
-@given(st.datetimes(min_value=EPOCH, timezones=st.timezones()))
+@given(st.datetimes(min_value=EPOCH, max_value=LAST_DAY, timezones=st.timezones()))
+@example(datetime.datetime(2021, 3, 14, 2, 30, tzinfo=NEW_YORK))
+@example(datetime.datetime(2021, 11, 7, 1, 30, tzinfo=NEW_YORK))
+@example(datetime.datetime(2021, 11, 7, 1, 30, fold=1, tzinfo=NEW_YORK))
 def test_the_name_of_a_copy_is_read_back_to_the_second(moment):
-    assert database.moment_of(f"{database.copy_name(moment)}.db") == moment.replace(microsecond=0)
+    """By the seconds since 1970: an hour that a clock shows twice, or never, is equal to none of another zone."""
+    found = database.moment_of(f"{database.copy_name(moment)}.db")
+    assert found.timestamp() == moment.replace(microsecond=0).timestamp()
 
 
 def test_a_hint_has_what_is_known_and_leaves_out_what_is_not():
