@@ -1,5 +1,6 @@
 """How requests are written as lines and as messages, and looks at pages, files and standings."""
 import json
+import weakref
 from urllib.parse import quote
 
 from support.model.names import bytes_of, read_file_name
@@ -9,14 +10,15 @@ LATEST_HTML, LATEST_JSON = HTML_1.replace("v1", "latest"), JSON_1.replace("v1", 
 
 
 class Turns:
-    """Values that are drawn at random, each once before any comes again."""
+    """Values that are drawn at random, each once before any comes again: for each source of chance anew, so that what
+    it draws does not depend on what others drew."""
 
     def __init__(self, *values):
-        self.values, self.left = values, []
+        self.values, self.left = values, weakref.WeakKeyDictionary()
 
     def drawn(self, random):
-        self.left = self.left or random.sample(self.values, len(self.values))
-        return self.left.pop()
+        self.left[random] = self.left.get(random) or random.sample(self.values, len(self.values))
+        return self.left[random].pop()
 
 
 # values of `Accept`; None is no such header
