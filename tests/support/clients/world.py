@@ -16,7 +16,7 @@ from support.packages import make_packages, make_wheel, wheel_files, wheel_name
 from support.places import SERVER, TOP
 from support.ports import free_port
 from support.running import run_command
-from support.server.front import Front
+from support.server.front import Front, whole_lines
 from support.server.kept import Kept
 from support.serving import Asking, accepted, sha256
 
@@ -177,8 +177,8 @@ class Gate(Front):
 
     def asked_at(self, port: int) -> list:
         """What was asked at this port, in order: the status, the method, the path, the reply's type, and Accept."""
-        with open(self.asked_log, errors="replace") as log:
-            return re.findall(rf"^{port} (\d+) (\S+) ([^\s|]+)\|([^|\n]*)\|(.*)$", log.read(), re.M)
+        pattern = rf"^{port} (\d+) (\S+) ([^\s|]+)\|([^|\n]*)\|(.*)$"
+        return re.findall(pattern, "".join(whole_lines(self.asked_log)), re.M)
 
 
 class World:

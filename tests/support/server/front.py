@@ -34,6 +34,7 @@ http {{
     include conf.d/*.conf;
 }}
 """
+WORKERS = int(re.findall(r"^worker_processes (\d+);", MAIN)[0])
 
 
 def replaced(text: str, **places: str) -> str:
@@ -49,6 +50,12 @@ def kept(name: str) -> str:
     """The text of a file of server/nginx."""
     with open(f"{SERVER}/nginx/{name}") as conf:
         return conf.read()
+
+
+def whole_lines(path: str) -> list[str]:
+    """The lines of a log of nginx, but one that it is just writing: of that a part may be there."""
+    with open(path, errors="replace") as log:
+        return [it for it in log if it.endswith("\n")]
 
 
 def seconds_of_waits() -> float:
@@ -157,8 +164,7 @@ class Front(Nginx, Asking):
 
     def changes(self) -> list[dict]:
         """The lines of the log of changes."""
-        with open(f"{self.folder}/index-changes.log", errors="replace") as log:
-            return [json.loads(line) for line in log]
+        return [json.loads(it) for it in whole_lines(f"{self.folder}/index-changes.log")]
 
 
 def is_here() -> bool:

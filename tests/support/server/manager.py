@@ -7,7 +7,7 @@ import signal
 from urllib.parse import unquote
 
 from support.proxy import InThread
-from support.server.front import Front
+from support.server.front import WORKERS, Front
 from support.server.kept import Kept
 from support.server.waits import wait_for
 
@@ -55,10 +55,12 @@ class Manager(InThread):
 
 
 def reload(nginx: int) -> None:
-    """Has nginx read its files again, and waits until no process serves by the old ones."""
+    """Has nginx read its files again, and waits until no process serves by the old ones. One that nginx has just begun
+    has another name at first."""
+    assert wait_for(lambda: len(workers(nginx)) == WORKERS)
     before = workers(nginx)
     os.kill(nginx, signal.SIGHUP)
-    wait_for(lambda: not any(is_serving(pid) for pid in before))
+    assert wait_for(lambda: not any(is_serving(pid) for pid in before))
 
 
 def reopen(nginx: int, old: str) -> None:
