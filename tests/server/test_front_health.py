@@ -10,8 +10,8 @@ from support.library import front as library
 from support.places import SERVER
 from support.running import run_command
 from support.server.expected import assert_ends
-from support.server.front import Front, has_ipv6, make_certificate
-from support.server.manager import workers
+from support.server.front import WORKERS, Front, has_ipv6, make_certificate
+from support.server.manager import reload, workers
 from support.server.stand_ins import called, stand_ins
 from support.server.waits import wait_for
 from support.server.watched import HEALTH, look_at_health, unit
@@ -69,7 +69,7 @@ def test_an_nginx_that_is_stopped_is_told_and_the_index_is_not_restarted(named, 
 
 
 def test_an_nginx_that_hangs_is_told(named):
-    assert wait_for(lambda: len(workers(named.process.pid)) == 2)
+    assert wait_for(lambda: len(workers(named.process.pid)) == WORKERS)
     for child in [named.process.pid, *map(int, run_command(["pgrep", "-P", str(named.process.pid)]).stdout.split())]:
         os.kill(child, signal.SIGSTOP)
     try:
@@ -140,7 +140,7 @@ def test_readers_that_need_a_password_are_no_fault_and_an_answer_of_another_kind
             whole = kept.read()
         with open(conf, "w") as made:
             made.write(whole.replace("location = /health {", "location = /well {"))
-        named.process.send_signal(signal.SIGHUP)
+        reload(named.process.pid)
         assert_ends(look_until(status, lambda: look(named, patience="1")), status, said)
 
 
