@@ -68,7 +68,7 @@ class TestAway:
         words = ["curl", "-fsS", "--retry", "5", "--cacert", front.certificate, f"{front.url}/health"]
         with filled_index.away():
             patient = subprocess.Popen(words, stdout=subprocess.PIPE, stderr=subprocess.DEVNULL)
-            time.sleep(0.3)
+            assert wait_for(lambda: front.has_met_nobody("GET /health"))
         said = patient.communicate(timeout=60)[0]
         assert (patient.returncode, said) == (0, b'{"name":"x","state":"free"}')
 
