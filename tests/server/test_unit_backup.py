@@ -105,10 +105,12 @@ def test_a_copy_that_is_not_sound_is_refused_with_the_reason(monkeypatch):
 
 
 def backed(tmp_path, monkeypatch, keep=14, unit=None):
-    """A backup of a database of some bytes, which is tested by nobody, and where it is."""
+    """The line of a backup of a database of some bytes, which is copied in a quarter of a second, and tested by nobody
+    in three."""
     (tmp_path / "index.db").write_bytes(b"database")
     os.makedirs(tmp_path / "copies", exist_ok=True)
     monkeypatch.setattr(BACKUP, "tested", lambda _: None)
+    with_time(monkeypatch, BACKUP, monotonic=iter([100.0, 100.25, 101.0]).__next__)
     moment = BACKUP.datetime.datetime(2026, 1, 2, 3, 4, 5, tzinfo=BACKUP.datetime.timezone.utc)
     monkeypatch.setattr(BACKUP.datetime, "datetime", types.SimpleNamespace(now=lambda zone: moment.astimezone(zone)))
     return BACKUP.backup(str(tmp_path / "index.db"), str(tmp_path / "copies"), keep, unit)
@@ -117,7 +119,7 @@ def backed(tmp_path, monkeypatch, keep=14, unit=None):
 def test_a_backup_has_the_name_of_its_moment_and_its_line(tmp_path, monkeypatch):
     said = backed(tmp_path, monkeypatch)
     name = tmp_path / "copies" / "index-20260102T030405Z.db"
-    assert said.startswith(f"{name}: 8 bytes, copied in 0.") and " s at trial 1, tested in 0." in said
+    assert said == f"{name}: 8 bytes, copied in 0.25 s at trial 1, tested in 0.75 s"
     assert os.listdir(tmp_path / "copies") == [name.name] and name.read_bytes() == b"database"
 
 
@@ -205,7 +207,7 @@ def test_a_second_backup_at_the_same_time_is_refused_and_takes_no_part_away(tmp_
 @pytest.mark.parametrize("end", [OSError(9, "a folder on NFS"), OSError(38, "no locks")])
 def test_a_folder_that_can_t_be_locked_takes_copies_all_the_same(tmp_path, monkeypatch, end):
     monkeypatch.setattr(exchange.fcntl, "flock", raises(end))
-    assert "8 bytes, copied in 0." in backed(tmp_path, monkeypatch)
+    assert ": 8 bytes, copied in " in backed(tmp_path, monkeypatch)
 
 
 def test_the_words_of_a_backup(monkeypatch, capsys):
