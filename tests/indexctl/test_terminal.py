@@ -110,8 +110,9 @@ def test_a_terminal_without_colours_gets_none(by, setting):
 
 
 def test_a_terminal_shows_how_far_a_walk_has_come(by):
+    held = len(by.rows("names"))
     _, seen = on_terminal(by, "quotas")
-    assert "names: " in seen and " of 16" in seen, seen
+    assert held > 12 and "names: " in seen and f" of {held}, " in seen, seen
 
 
 def test_no_terminal_has_no_colours(by):
