@@ -14,14 +14,15 @@ until ss -Hltn "sport = :$3" | grep -q .; do sleep 0.1; done
 setpriv --reuid "$2" --clear-groups curl -sS -o /dev/null -w '%{http_code}' "http://127.0.0.1:$3/"; status=$?
 kill $server
 exit $status"""
-# as a user, somebody listens at this port and prints what comes; nginx' user asks
+# as a user, somebody listens at this port, prints what comes and goes; nginx' user asks, and waits for that once it is
+# connected, which the kernel does by itself
 ANSWERS = """ip link set lo up && nft -f "$1" || exit 9
 setpriv --reuid "$2" --clear-groups /usr/bin/python3 -S -c '
 import socket, sys
 peer = socket.create_server(("127.0.0.1", int(sys.argv[1]))).accept()[0]
 print(peer.recv(1000), flush=True)' "$3" & server=$!
 until ss -Hltn "sport = :$3" | grep -q .; do sleep 0.1; done
-setpriv --reuid 33 --clear-groups curl -sS -m 1 -H "X-Index-Token: token" "http://127.0.0.1:$3/"
+setpriv --reuid 33 --clear-groups curl -sS --connect-timeout 3 -m 50 -H "X-Index-Token: token" "http://127.0.0.1:$3/"
 kill $server
 exit 0"""
 
