@@ -14,6 +14,7 @@ from support.server.expected import assert_ends
 from support.server.front import replaced
 from support.server.kept import Uploader
 from support.server.stand_ins import called, stand_ins
+from support.server.waits import wait_for
 from support.server.watched import unit
 from support.serving import Index, accepted, make_index
 
@@ -53,6 +54,7 @@ def test_a_copy_under_uploads_has_what_was_acknowledged_before_and_serves_it(
     # some 30 uploads a second: with many more, a copy on a slow disk may never be of one moment
     uploader = Uploader(index, "busy", time.monotonic() + 90, chance, pause=0.03)
     uploader.start()
+    assert wait_for(lambda: uploader.files)
     for at in range(BACKUPS):
         time.sleep(1 + chance.random())
         before = dict(uploader.files)
@@ -60,7 +62,7 @@ def test_a_copy_under_uploads_has_what_was_acknowledged_before_and_serves_it(
         looked((ended.returncode, "tested in" in ended.stdout) == (0, True), ended.stdout)
         copies = sorted(os.listdir(backups))
         missing = missing_in(f"{backups}/{copies[-1]}", before)
-        looked(before and not missing, f"{len(before)} uploads before backup {at + 1}", missing)
+        looked(not missing, f"{len(before)} uploads before backup {at + 1}", missing)
     uploader.stop()
     looked(len(copies) == 2 and all(it.endswith(".db") for it in copies), "the last two are kept", copies)
     with Index(program, path=f"{backups}/{copies[-1]}", patience=60) as copy:
