@@ -32,7 +32,7 @@ FILES: Pairs = (
 STATUSES: Pairs = (
     ("0", "all is done"),
     ("1", "the index refused something; a person has to read why"),
-    ("2", "the command, a file or a setting is wrong; nothing was asked for"),
+    ("2", "the command, a file or a setting is wrong, and nothing was asked for; or the output can't be printed"),
     ("3", "the index could not be reached, or failed; try again later"),
     ("130", "you pressed Ctrl-C"),
     ("141", "what read the output, such as `head`, had enough"),

@@ -13,6 +13,7 @@ from indexctl.contents import find_contents, releases_of
 from indexctl.ends import Stop
 from indexctl.settings import find_setting
 from indexctl.standings import listed_names
+from indexctl.terminal import put
 from indexctl.transport import Index
 from package_index.names import normal
 
@@ -154,8 +155,8 @@ def completion(args: argparse.Namespace) -> None:
     """Put it where your shell finds it, as into ~/.local/share/bash-completion/completions/indexctl. It completes
     names, files and releases from the index."""
     if not args.words:
-        print(script_of(COMMANDS), end="")
+        put(script_of(COMMANDS), end="")
         return
     line = read_line(args.words)
     if line and line.kind in FINDERS:
-        print("".join(f"{it}\n" for it in found_in_time(line)), end="")
+        put("".join(f"{it}\n" for it in found_in_time(line)), end="")

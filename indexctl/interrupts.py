@@ -2,7 +2,7 @@
 from __future__ import annotations
 
 import signal
-from contextlib import contextmanager, suppress
+from contextlib import contextmanager
 from types import FrameType
 from typing import Callable, Iterator, Optional
 
@@ -19,17 +19,15 @@ def interrupt(_: int, __: Optional[FrameType]) -> None:
 @contextmanager
 def told_if_interrupted(sentence: Callable[[], str]) -> Iterator[None]:
     """Says this sentence if the work inside is interrupted: by Ctrl-C, by a closed terminal, or by SIGTERM, which are
-    one here. A signal that is ignored, as under nohup, stays so."""
+    one here, or since its output can't be printed. A signal that is ignored, as under nohup, stays so."""
     before = {it: signal.getsignal(it) for it in SIGNALS}
     for it, handler in before.items():
         if handler is not signal.SIG_IGN:
             signal.signal(it, interrupt)
     try:
         yield
-    except KeyboardInterrupt:
-        # nobody reads a closed terminal
-        with suppress(OSError):
-            note(sentence(), "yellow")
+    except (KeyboardInterrupt, OSError):
+        note(sentence(), "yellow")
         raise
     finally:
         for it, handler in before.items():

@@ -4,36 +4,43 @@ from __future__ import annotations
 import io
 import os
 import sys
+from contextlib import suppress
 
 from indexctl.command_line import parsers
 from indexctl.commands import COMMANDS
 from indexctl.ends import INTERRUPTED, PIPE_CLOSED, WRONG, Stop
-from indexctl.terminal import note
+from indexctl.terminal import note, put
 
 
 def main() -> int:
-    for name, mode in (("stdin", "r"), ("stdout", "w"), ("stderr", "w")):
+    for name, mode in (("stdin", "r"), ("stderr", "w")):
         if getattr(sys, name) is None:
             # it was closed, as by `<&-`
             setattr(sys, name, open(os.devnull, mode, encoding="utf-8"))
+    if sys.stdout is None:
+        note("indexctl: Standard output is closed, so nothing was asked for. It may go to /dev/null.", "red")
+        return WRONG
     for stream in (sys.stdout, sys.stderr):
         if isinstance(stream, io.TextIOWrapper):
             stream.reconfigure(errors="backslashreplace")
-    args = parsers(COMMANDS)[0].parse_args()
     try:
-        status = args.function(args)
-        sys.stdout.flush()
-        return int(status or 0)
-    except Stop as end:
-        note(f"indexctl: {end}", "red")
-        return end.status
-    except KeyboardInterrupt:
-        note("indexctl: interrupted")
-        return INTERRUPTED
-    except BrokenPipeError:
-        # nobody reads what is printed any more, and the interpreter would complain of that as it ends
-        os.dup2(os.open(os.devnull, os.O_WRONLY), sys.stdout.fileno())
-        return PIPE_CLOSED
+        try:
+            args = parsers(COMMANDS)[0].parse_args()
+            return int(args.function(args) or 0)
+        except Stop as end:
+            note(f"indexctl: {end}", "red")
+            return end.status
+        except KeyboardInterrupt:
+            note("indexctl: interrupted")
+            return INTERRUPTED
+        finally:
+            # argparse prints help by itself
+            put("", end="")
     except OSError as end:
+        # the interpreter would complain, as it ends, of what can't be printed
+        with suppress(OSError):
+            os.dup2(os.open(os.devnull, os.O_WRONLY), sys.stdout.fileno())
+        if isinstance(end, BrokenPipeError):
+            return PIPE_CLOSED
         note(f"indexctl: {end}", "red")
         return WRONG

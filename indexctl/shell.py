@@ -7,6 +7,7 @@ from typing import List
 
 from indexctl.about import ABOUT, AGAIN, ENVIRONMENT, FILES, STATUSES, VERSION
 from indexctl.command_line import COMMANDS, Command, command, more_text, parsers, sentence
+from indexctl.terminal import put
 
 
 def roff(text: str) -> str:
@@ -53,4 +54,4 @@ def man(args: argparse.Namespace) -> None:
     for title, pairs in (("ENVIRONMENT", ENVIRONMENT), ("FILES", FILES), ("EXIT STATUS", STATUSES)):
         lines += [f".SH {title}"]
         lines += [line for head, text in pairs for line in (".TP", f".B {roff(head)}", f"{roff(text)}.")]
-    print("\n".join(lines))
+    put("\n".join(lines))

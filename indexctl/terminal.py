@@ -10,6 +10,7 @@ import sys
 import textwrap
 import threading
 import time
+from contextlib import suppress
 from typing import Any, Callable, ClassVar, Dict, Mapping, Optional, Sequence, TextIO
 
 from indexctl.ends import WRONG, Stop
@@ -68,16 +69,29 @@ class Progress:
             Progress.drawn = None
 
 
+def put(text: str, end: str = "\n") -> None:
+    """Prints on standard output, as all that goes there. If it can't, the error names what it is of."""
+    try:
+        print(text, end=end, flush=True)
+    except OSError as why:
+        raise OSError(why.errno, why.strerror, "standard output") from why
+
+
 def say(text: str, colour: Optional[str] = None) -> None:
-    """Prints a line of what was done."""
+    """Prints a line of what was done, on standard error if it can't go out otherwise."""
     Progress.clear()
-    print(paint(printable(text), colour), flush=True)
+    try:
+        put(paint(printable(text), colour))
+    except OSError:
+        note(text)
+        raise
 
 
 def note(text: str, colour: Optional[str] = None) -> None:
-    """Prints a line on standard error."""
-    Progress.clear()
-    print(paint(printable(text), colour, sys.stderr), file=sys.stderr, flush=True)
+    """Prints a line on standard error. If nobody reads that any more, the run goes on."""
+    with suppress(OSError):
+        Progress.clear()
+        print(paint(printable(text), colour, sys.stderr), file=sys.stderr, flush=True)
 
 
 def confirm(args: argparse.Namespace, sentence: str) -> None:
@@ -119,7 +133,7 @@ def listing(args: argparse.Namespace, rows: Sequence[Any], columns: Columns,
             json_of: Callable[[Any], object] = as_json) -> None:
     """Prints rows as JSON if --json was given, else as a table of these columns: each a head and what gives a cell."""
     if args.json:
-        print(json.dumps([json_of(row) for row in rows], indent=1))
+        put(json.dumps([json_of(row) for row in rows], indent=1))
         return
     cells = [[printable(text(row)) for text in columns.values()] for row in rows]
     if not cells:
@@ -132,19 +146,18 @@ def listing(args: argparse.Namespace, rows: Sequence[Any], columns: Columns,
         for line in cells:
             print_block(dict(zip(columns, line)), most)
         return
-    for at, line in enumerate(lines):
-        text = "  ".join(cell.ljust(width) for cell, width in zip(line, widths)).rstrip()
-        print(text if at else paint(text, "bold"))
+    head, *others = ("  ".join(cell.ljust(width) for cell, width in zip(line, widths)).rstrip() for line in lines)
+    put("\n".join((paint(head, "bold"), *others)))
 
 
 def print_block(pairs: Mapping[str, str], most: int) -> None:
     """Prints the cells of one row below each other, for a terminal that is too narrow for a table; those without a text
     are left out. A word that is too long for a line, such as a digest, is left to the terminal, so that it can be
     copied."""
-    wide = max(map(len, pairs)) + 2
+    wide, printed = max(map(len, pairs)) + 2, []
     for at, (head, text) in enumerate(pairs.items()):
         lines = textwrap.wrap(text, max(20, most - wide - 1), break_long_words=False, break_on_hyphens=False)
         for number, line in enumerate(lines):
             front = f"{head if not number else '':{wide}}"
-            print(f"{paint(front, 'dim')}{line if at else paint(line, 'bold')}".rstrip())
-    print()
+            printed.append(f"{paint(front, 'dim')}{line if at else paint(line, 'bold')}".rstrip())
+    put("".join(f"{line}\n" for line in printed))

@@ -16,7 +16,7 @@ from indexctl.ends import REFUSED, WRONG, Stop
 from indexctl.names import check_names, check_texts
 from indexctl.probe import open_cases
 from indexctl.standings import held_names
-from indexctl.terminal import Columns, as_json, confirm, listing, note, print_block, printable, texts
+from indexctl.terminal import Columns, as_json, confirm, listing, note, print_block, printable, put, texts
 from indexctl.units import moment
 from indexctl.uploads import MOST_TEXT
 
@@ -53,7 +53,7 @@ def case_show(args: argparse.Namespace) -> None:
     if not rows:
         raise Stop(REFUSED, f"The case of {args.name} has ended just now.")
     if args.json:
-        print(json.dumps(as_json(rows[0]), indent=1))
+        put(json.dumps(as_json(rows[0]), indent=1))
         return
     print_block({head: printable(text(rows[0])) for head, text in CASE_COLUMNS.items()},
                 shutil.get_terminal_size().columns)

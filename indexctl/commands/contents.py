@@ -18,7 +18,7 @@ from indexctl.names import check_names
 from indexctl.near import not_held
 from indexctl.probe import open_cases
 from indexctl.standings import Standing, find_standing
-from indexctl.terminal import Columns, listing, print_block, printable, texts
+from indexctl.terminal import Columns, listing, print_block, printable, put, texts
 from indexctl.transport import Index
 from indexctl.units import counted, human
 
@@ -76,7 +76,7 @@ def status(args: argparse.Namespace) -> None:
         raise Stop(REFUSED, not_held(desk.index, args.name))
     row = status_row(desk, found)
     if args.json:
-        print(json.dumps(asdict(row), indent=1))
+        put(json.dumps(asdict(row), indent=1))
         return
     most = shutil.get_terminal_size().columns
     print_block({head: printable(text) for head, text in status_texts(row).items()}, most)

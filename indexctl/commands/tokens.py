@@ -14,7 +14,7 @@ from indexctl.commands.arguments import JSON
 from indexctl.ends import REFUSED, WRONG, Stop
 from indexctl.names import sha256
 from indexctl.settings import TOKEN, read_profiles, without_password
-from indexctl.terminal import listing, texts
+from indexctl.terminal import listing, put, texts
 
 
 @command("token new", "makes a token, and prints it once with its digest", JSON)
@@ -22,9 +22,9 @@ def token_new(args: argparse.Namespace) -> None:
     """Keep the token yourself, in a file of mode 0600. Give the office the digest alone."""
     token = secrets.token_hex(32)
     if args.json:
-        print(json.dumps({"token": token, "digest": sha256(token)}))
+        put(json.dumps({"token": token, "digest": sha256(token)}))
     else:
-        print(f"token   {token}\ndigest  {sha256(token)}")
+        put(f"token   {token}\ndigest  {sha256(token)}")
 
 
 @command("token digest", "prints the digest of a token that is typed or piped in")
@@ -36,7 +36,7 @@ def token_digest(args: argparse.Namespace) -> None:
         token = ""
     if not re.fullmatch(TOKEN, token):
         raise Stop(WRONG, "Type or pipe in one line of plain characters, which is the token.")
-    print(sha256(token))
+    put(sha256(token))
 
 
 @command("token check", "says which index you ask, and whether your token is known there", JSON)

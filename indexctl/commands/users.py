@@ -13,7 +13,7 @@ from indexctl.ends import REFUSED, UNREACHED, WRONG, Stop
 from indexctl.interrupts import told_if_interrupted
 from indexctl.names import DIGEST, check_users, sha256
 from indexctl.standings import Standing, held_names
-from indexctl.terminal import confirm, note
+from indexctl.terminal import confirm, note, put
 
 
 def digest_of(args: argparse.Namespace) -> Tuple[str, Optional[str]]:
@@ -30,7 +30,7 @@ def give_token(desk: Desk, what: str, row: Row, token: Optional[str]) -> None:
     """Asks for a change that makes a token known, and prints a token that was made here, once."""
     try:
         if desk.change(what, row) and token:
-            print(f"{row['user']}'s token, which is shown this once: {token}", flush=True)
+            put(f"{row['user']}'s token, which is shown this once: {token}")
     except Stop as end:
         lost = f" If it was done, its token is lost: use `indexctl user rotate {row['user']}`." if token else ""
         raise Stop(end.status, f"{end}{lost if end.status == UNREACHED else ''}") from end

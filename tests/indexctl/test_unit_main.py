@@ -28,7 +28,7 @@ def test_why_it_ends_is_told_and_is_its_status(monkeypatch, capsys, end, status,
     assert said in err and not out
 
 
-@pytest.mark.parametrize("stream", ["stdin", "stdout", "stderr"])
+@pytest.mark.parametrize("stream", ["stdin", "stderr"])
 def test_a_stream_that_is_closed_is_an_empty_one(monkeypatch, stream):
     """Python has none then, as behind `<&-`."""
     monkeypatch.setattr(sys, stream, None)
@@ -39,6 +39,14 @@ def test_a_stream_that_is_closed_is_an_empty_one(monkeypatch, stream):
         note("well")
     assert run(monkeypatch, command) == 0
     getattr(sys, stream).close()
+
+
+def test_a_closed_output_ends_a_run_before_anything_is_asked_for(monkeypatch, capsys):
+    """What can't be told, such as a new token, would be lost."""
+    asked = []
+    monkeypatch.setattr(sys, "stdout", None)
+    assert run(monkeypatch, asked.append) == WRONG and not asked
+    assert "Standard output is closed, so nothing was asked for" in capsys.readouterr().err
 
 
 @pytest.mark.parametrize("given, status", [(None, 0), (0, 0), (REFUSED, 1), (WRONG, 2)])
