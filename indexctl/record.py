@@ -66,7 +66,11 @@ class Record:
 
         def keep() -> None:
             is_kept.append(True)
-            self.write(line, end)
+            try:
+                self.write(line, end)
+            except OSError as failed:
+                raise OSError(failed.errno, f"{failed.strerror}. This was accepted, and is in no record: "
+                              f"{json.dumps(row)}", self.path) from failed
         try:
             yield keep
         finally:

@@ -155,6 +155,19 @@ def test_a_disk_that_is_full_leaves_the_record_as_it_was(tmp_path, monkeypatch):
     assert end.value.status == WRONG and (tmp_path / "record").read_text() == "{}\n"
 
 
+def test_a_change_whose_line_can_t_be_written_is_told_as_accepted(tmp_path, monkeypatch):
+    """As on a file system that writes what it has room for elsewhere."""
+    record = Record(str(tmp_path / "record"))
+
+    def full(*_):
+        raise OSError(errno.ENOSPC, "No space left on device")
+    with pytest.raises(OSError, match=r'No space left on device.*This was accepted, .* \{"a": 1\}: .*record') as end:
+        with record.room({"a": 1}) as keep:
+            monkeypatch.setattr(os, "pwrite", full)
+            keep()
+    assert end.value.errno == errno.ENOSPC
+
+
 def test_a_record_in_no_folder_is_told(tmp_path):
     with pytest.raises(Stop, match="can't be written: No such file.*Nothing was asked for") as end:
         Record(str(tmp_path / "none" / "record"))
