@@ -58,9 +58,13 @@ def netrc_of(host: str) -> Tuple[str, str, str]:
     """The login, the account and the password of this host in ~/.netrc, or three empty texts."""
     try:
         found = netrc.netrc().hosts.get(host)
-    except FileNotFoundError:
+    except (FileNotFoundError, NotADirectoryError):
         found = None
-    except (netrc.NetrcParseError, OSError, UnicodeDecodeError) as end:
+    except netrc.NetrcParseError as end:
+        # a word that is not understood may be a part of a password
+        why = re.sub(" token .*", f" token in line {end.lineno}", end.msg)
+        raise Stop(WRONG, f"~/.netrc can't be used: {why}") from end
+    except (OSError, UnicodeDecodeError) as end:
         raise Stop(WRONG, f"~/.netrc can't be used: {end}") from end
     login, account, password = found or ("", "", "")
     return login or "", account or "", password or ""
@@ -103,6 +107,13 @@ def parts_of_url(url: str, what: str) -> urllib.parse.SplitResult:
     return parts
 
 
+def plain_url(parts: urllib.parse.SplitResult) -> str:
+    """The address of an index, without a password and without a slash at its end."""
+    name = parts.hostname or ""
+    host = f"[{name}]" if ":" in name else name
+    return f"{parts.scheme}://{host}{f':{parts.port}' if parts.port else ''}"
+
+
 def basic_of(parts: urllib.parse.SplitResult, values: Mapping[str, str], login: str, password: str) -> str:
     """The user and the password that the proxy asks for, or an empty text."""
     if parts.username is not None:
@@ -116,17 +127,14 @@ def basic_of(parts: urllib.parse.SplitResult, values: Mapping[str, str], login: 
 def setting_from(place: str, url_name: str, values: Mapping[str, str], token: str, source: str) -> Setting:
     """The setting that these values make, with what ~/.netrc adds for the host."""
     parts = parts_of_url(values["url"], url_name)
-    name = parts.hostname or ""
-    login, account, password = netrc_of(name)
+    login, account, password = netrc_of(parts.hostname or "")
     basic = basic_of(parts, values, login, password)
     if not token:
         token, source = (password if login == "__token__" else account), "~/.netrc"
     if token and not re.fullmatch(TOKEN, token):
         raise Stop(WRONG, f"{source} has characters that no token has. Write one line of plain characters there.")
-    host = f"[{name}]" if ":" in name else name
-    url = f"{parts.scheme}://{host}{f':{parts.port}' if parts.port else ''}"
     ca, record = (os.path.expanduser(values.get(key) or "") for key in ("ca", "record"))
-    return Setting(place, url, token, source if token else "", ca, record, basic)
+    return Setting(place, plain_url(parts), token, source if token else "", ca, record, basic)
 
 
 def setting_of_environment() -> Setting:

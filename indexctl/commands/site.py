@@ -7,7 +7,7 @@ import os
 from indexctl.changes import Desk
 from indexctl.command_line import argument, command
 from indexctl.ends import WRONG, Stop
-from indexctl.settings import parts_of_url
+from indexctl.settings import parts_of_url, plain_url
 from indexctl.site.folder import kept_in, put_pages
 from indexctl.site.projects import find_projects
 from indexctl.terminal import say
@@ -23,12 +23,11 @@ def site(args: argparse.Namespace) -> None:
     whole, and the pages of names that are gone are removed."""
     if not os.path.isdir(args.folder):
         raise Stop(WRONG, f"{args.folder} is not a folder.")
-    if args.url:
-        parts_of_url(args.url, "--url")
+    url = plain_url(parts_of_url(args.url, "--url")) if args.url else None
     desk = Desk(args)
     with kept_in(args.folder) as kept:
         projects = find_projects(desk.index, kept)
-        changed = put_pages(args.folder, (args.url or desk.setting.url).rstrip("/"), projects)
+        changed = put_pages(args.folder, url or desk.setting.url, projects)
         used = {it.digest for it in projects}
         for digest in set(kept) - used:
             del kept[digest]

@@ -162,6 +162,27 @@ def test_a_netrc_that_can_t_be_read_is_told(home, text):
     assert end.value.status == WRONG
 
 
+@pytest.mark.parametrize("text, line", [("machine h login r password two words", 1), ("\nwords", 2)])
+def test_a_mistake_in_netrc_is_told_without_a_password(home, text, line):
+    """What is said may end up in a pipeline's log."""
+    put(home / ".netrc", text)
+    with pytest.raises(Stop) as end:
+        setting()
+    assert "words" not in str(end.value) and str(end.value).endswith(f"token in line {line}")
+
+
+def test_a_netrc_that_others_may_read_is_told(home):
+    put(home / ".netrc", NETRC.format("bob"), 0o644)
+    with pytest.raises(Stop, match="~/.netrc can't be used: .*must restrict access to only the owner$"):
+        setting()
+
+
+def test_a_home_that_is_no_folder_has_no_netrc(home, monkeypatch):
+    """As that of users who never log in, which is /dev/null for some."""
+    monkeypatch.setenv("HOME", put(home / "file", ""))
+    assert setting().token == ""
+
+
 def test_the_password_of_the_proxy_is_that_of_the_address_then_of_the_profile_then_of_netrc(home):
     put(home / ".netrc", NETRC.format("bob"))
     secret = put(home / "secret", "s3cret")

@@ -17,7 +17,7 @@ from indexctl.site import about, folder, pages, projects
 from indexctl.site.about import About
 from indexctl.versions import is_final, is_release
 from support.indexctl.projects import wheel_of
-from support.indexctl.rows import OPENED, FakeIndex, case_of, held, reply
+from support.indexctl.rows import OPENED, SETTING, FakeIndex, case_of, held, reply
 from support.indexctl.scripted import STANDING
 from support.unit import calls
 
@@ -237,6 +237,17 @@ def test_without_a_folder_nothing_is_asked_for(tmp_path, monkeypatch):
     with pytest.raises(Stop, match="none is not a folder") as end:
         site.site(types.SimpleNamespace(folder=f"{tmp_path}/none", url=None))
     assert end.value.status == WRONG and not desks
+
+
+@pytest.mark.parametrize("url, shown", [
+    ("https://bob:s3cret@h:8443/", "https://h:8443"), ("https://bob@h", "https://h"),
+    ("https://[2001:db8::1]/", "https://[2001:db8::1]"), (None, SETTING.url)])
+def test_no_password_of_an_address_is_in_the_pages(tmp_path, monkeypatch, url, shown):
+    calls(monkeypatch, site, "Desk", types.SimpleNamespace(index=None, setting=SETTING))
+    calls(monkeypatch, site, "find_projects", [])
+    given = calls(monkeypatch, site, "put_pages", 0)
+    site.site(types.SimpleNamespace(folder=str(tmp_path), url=url))
+    assert given == [(str(tmp_path), shown, [])]
 
 
 def test_a_folder_of_something_else_is_refused(tmp_path):
