@@ -6,9 +6,10 @@ from contextlib import suppress
 from typing import Dict, Mapping
 
 from indexctl.cases import case_row
+from indexctl.contents import find_contents, releases_in
 from indexctl.ends import Stop
 from indexctl.near import not_held
-from indexctl.standings import Standing, find_files, find_standing
+from indexctl.standings import Standing, find_standing
 from indexctl.transport import Index
 from indexctl.units import YEAR, counted, due, human
 from package_index.hints import HINTS, fields_of, hint
@@ -34,8 +35,9 @@ def hint_of(index: Index, answer: str, row: Mapping[str, object]) -> str:
         if name and asked & OF_STANDING:
             known.update(known_of_standing(find_standing(index, name)))
         if name and asked & OF_FILES:
-            files, releases = find_files(index, name)
-            known.update(files=counted(len(files), "file"), releases=", ".join(releases) or "no files at all")
+            files = find_contents(index, name) or []
+            releases = ", ".join(release for release, _ in releases_in(files))
+            known.update(files=counted(len(files), "file"), releases=releases or "no files at all")
     more = " A case may be closed by its candidate too." if row.get("do") == "close_case" else ""
     return hint(answer, **{key: text for key, text in known.items() if text}) + (more if answer == "NotOffice" else "")
 

@@ -136,13 +136,6 @@ def find_page(index: Index, path: str, rows: str, key: str, is_fresh: bool = Fal
     return found
 
 
-def find_files(index: Index, name: str) -> Tuple[List[str], List[str]]:
-    """The names of a project's files, and its releases."""
-    found = find_page(index, page_of_project(name), "files", "filename") or {"files": []}
-    versions = found.get("versions")
-    return [it["filename"] for it in found["files"]], list(map(str, versions if isinstance(versions, list) else ()))
-
-
 def side_by_side(function: Callable[[Sequence[Item]], List[Result]], items: Sequence[Item],
                  what: str) -> Iterator[Result]:
     """What a function gives for the items, some at a time, in their order and as it comes. Several threads ask; the

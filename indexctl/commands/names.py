@@ -8,8 +8,9 @@ from typing import Sequence
 from indexctl.changes import Desk
 from indexctl.command_line import command
 from indexctl.commands.arguments import NAME, NAMES, USER, YES
+from indexctl.contents import find_contents
 from indexctl.names import check_names, check_users
-from indexctl.standings import find_files, find_standing
+from indexctl.standings import find_standing
 from indexctl.terminal import confirm, confirm_on_terminal, note, say
 from indexctl.transport import Index
 from indexctl.units import counted
@@ -62,14 +63,15 @@ def name_prohibit(args: argparse.Namespace) -> int:
     index-uncache lines that are printed, on the server."""
     check_names(*args.names)
     desk = Desk(args)
-    found = {name: (find_standing(desk.index, name), find_files(desk.index, name)[0]) for name in args.names}
+    found = {name: (find_standing(desk.index, name), find_contents(desk.index, name, is_fresh=True) or [])
+             for name in args.names}
     there = [f"{name}: {counted(len(files), 'file')} of {', '.join(at.owners)}"
              for name, (at, files) in found.items() if at.state == "held"]
     if there:
         confirm(args, f"This deletes files and takes names from their owners: {'; '.join(there)}.")
     for name, (_, files) in found.items():
         if desk.change(f"prohibit {name}", {"do": "prohibit", "name": name}):
-            tell_uncache(normal(name), files)
+            tell_uncache(normal(name), [it.file for it in files])
     return desk.status()
 
 

@@ -6,6 +6,7 @@ import signal
 import sys
 
 import pytest
+from indexctl.contents import FileRow
 from indexctl.ends import REFUSED, UNREACHED, WRONG, Stop
 from indexctl.standings import Standing
 from indexctl.names import sha256
@@ -234,10 +235,16 @@ def test_who_can_t_leave_so_is_told_before_anything_is_done(run, words, said, st
 
 def test_files_and_owners_of_a_prohibited_name_are_told_first(run, capsys):
     run.names = [held("a", owners=["ann", "bob"])]
-    assert len(run.asked("name", "prohibit", "A".lower(), "free")) == 2
+    run.contents = {"a": [FileRow("a-1.0.tar.gz", "1.0", 3, "", None, "00")]}
+    assert len(run.asked("name", "prohibit", "a", "free")) == 2
     assert run.confirmed == ["This deletes files and takes names from their owners: a: 1 file of ann, bob."]
-    out = capsys.readouterr()
-    assert out.out.splitlines() == ["index-uncache a a-1.0.tar.gz", "index-uncache free free-1.0.tar.gz"]
+    assert capsys.readouterr().out.splitlines() == ["index-uncache a a-1.0.tar.gz"]
+
+
+def test_a_file_that_came_a_moment_before_a_prohibition_leaves_the_cache(run):
+    """The page that nginx keeps for a second does not have it."""
+    run.asked("name", "prohibit", "a", "b")
+    assert run.fresh == ["a", "b"]
 
 
 @pytest.mark.parametrize("verb", ["delete", "ban"])

@@ -12,7 +12,7 @@ from support.indexctl.rows import CASE, OPENED, FakeIndex, case_of, held, reply
 
 HELD = {"name": "frob", "state": "held", "shown": "Frob", "owners": ["ann", "bea"], "quota": 2048, "charge": 1024,
         "case": {**CASE, "sent": 2}}
-FILES = {"files": [{"filename": "a-1.tar.gz"}], "versions": ["1", "2"]}
+FILES = {"files": [{"filename": "a-1.tar.gz"}, {"filename": "a-2.tar.gz"}]}
 
 
 def index_of(*values):
@@ -71,8 +71,8 @@ def test_a_candidate_is_told_of_closing_a_case_alone():
 
 
 def test_files_and_releases_are_counted():
-    assert said("FilesRemain", FILES, name="frob").startswith("It still has 1 file.")
-    assert "The name has 1, 2." in said("NoRelease", FILES, name="frob")
+    assert said("FilesRemain", FILES, name="frob").startswith("It still has 2 files.")
+    assert "The name has 2, 1." in said("NoRelease", FILES, name="frob")
     assert "The name has no files at all." in said("NoRelease", {"files": []}, name="frob")
 
 

@@ -87,34 +87,16 @@ def test_a_page_of_another_form_is_no_answer(status, value):
         standings.find_page(FakeIndex(as_reply(status, value)), "/simple/", "projects", "name")
 
 
-def test_a_project_has_files_and_releases():
-    index = FakeIndex(as_reply(200, {"files": [{"filename": "a-1.tar.gz"}], "versions": ["1"]}))
-    assert standings.find_files(index, "A_b") == (["a-1.tar.gz"], ["1"])
-    assert index.asked[0].path == "/simple/a-b/"
-    assert dict(index.asked[0].headers) == {"Accept": "application/vnd.pypi.simple.v1+json"}
-
-
-def test_a_project_that_is_not_there_has_none():
-    assert standings.find_files(FakeIndex(as_reply(404, {"name": "NoProject"})), "a") == ([], [])
-
-
-@pytest.mark.parametrize("versions", [None, 1, "1", {}])
-def test_a_project_of_a_page_of_another_kind_has_no_releases(versions):
-    index = FakeIndex(as_reply(200, {"files": [], "versions": versions}))
-    assert standings.find_files(index, "a") == ([], [])
-
-
 @pytest.mark.parametrize("name", ["\ud800", "a\udfffb"])
 def test_a_name_that_is_no_text_is_no_name_of_an_index(name):
     with pytest.raises(Stop, match="This is no answer of an index"):
         standings.listed_names(FakeIndex(as_reply(200, {"projects": [{"name": "a"}, {"name": name}]})))
 
 
-@pytest.mark.parametrize("name, path", [("\u00e4", "%C3%A4"), ("a b", "a%20b"), ("../x", "-%2Fx"),
+@pytest.mark.parametrize("name, path", [("A_b", "a-b"), ("\u00e4", "%C3%A4"), ("a b", "a%20b"), ("../x", "-%2Fx"),
                                         ("a\r\nb", "a%0D%0Ab")])
-def test_a_name_that_is_none_is_asked_for_by_a_path(name, path):
-    index = FakeIndex(as_reply(200, {"files": []}))
-    assert standings.find_files(index, name) == ([], []) and index.asked[0].path == f"/simple/{path}/"
+def test_a_project_has_a_path_though_its_name_is_none(name, path):
+    assert standings.page_of_project(name) == f"/simple/{path}/"
 
 
 def side_by_side(function, items):
@@ -187,9 +169,9 @@ def test_a_fresh_page_is_asked_for_as_nobody_asked_before():
 
 
 def test_what_nginx_keeps_is_good_enough_if_no_fresh_page_is_asked_for():
-    index = FakeIndex(as_reply(200, {"projects": [{"name": "a"}]}), as_reply(200, {"files": [], "versions": ["1"]}))
-    assert (standings.listed_names(index), standings.find_files(index, "a")) == (["a"], ([], ["1"]))
-    assert [dict(it.headers) for it in index.asked] == 2 * [{"Accept": standings.JSON_PAGE}]
+    index = FakeIndex(as_reply(200, {"projects": [{"name": "a"}]}))
+    assert standings.listed_names(index) == ["a"]
+    assert [dict(it.headers) for it in index.asked] == [{"Accept": "application/vnd.pypi.simple.v1+json"}]
 
 
 @pytest.mark.parametrize("count", [1, 31, 32, 33, 64, 65, 1_000, 5_003])

@@ -49,14 +49,13 @@ class Run:
 
     def __init__(self, monkeypatch):
         self.desk, self.names, self.confirmed, self.monkeypatch = FakeDesk(), [], [], monkeypatch
-        self.lists, self.shown, self.contents = [], [], {}
+        self.lists, self.shown, self.contents, self.fresh = [], [], {}, []
         self.put("Desk", lambda _: self.desk)
         self.put("held_names", self.listed)
         self.put("find_standing", self.standing)
-        self.put("find_files", lambda _, name: ([f"{name}-1.0.tar.gz"], ["1.0"]))
         self.put("confirm", lambda args, said: self.confirmed.append(said))
         self.put("confirm_on_terminal", lambda args, said: self.shown.append(said))
-        self.put("find_contents", lambda _, name, is_fresh=False: self.contents.get(name))
+        self.put("find_contents", self.listed_files)
         self.put("not_held", lambda _, name: f"Nobody holds {name}.")
 
     def put(self, name, made):
@@ -68,6 +67,11 @@ class Run:
         """The held names. `lists` has how each list was asked for: a fresh one, and behind how many changes."""
         self.lists.append((is_fresh, len(self.desk.asked)))
         return iter(self.names)
+
+    def listed_files(self, _, name, is_fresh=False):
+        """The files of a name. `fresh` has the names of which no page was taken that nginx keeps."""
+        self.fresh += [name] if is_fresh else []
+        return self.contents.get(name)
 
     def standing(self, _, name):
         return next((it for it in self.names if it.name == name), FREE)
