@@ -9,6 +9,7 @@ import re
 import tarfile
 import time
 import zipfile
+from contextlib import suppress
 from typing import IO, Iterator, List, Optional, Sequence, cast
 
 from indexctl.changes import Desk
@@ -71,14 +72,16 @@ class File:
             raise Stop(WRONG, f"{self.path}: its Requires-Python is {text!r}, which is not a list such as `>=3.8, <4`.")
 
     def pieces(self) -> Iterator[bytes]:
-        """The bytes in pieces, with the part that went out on a terminal."""
-        with open(self.path, "rb") as data, Progress(self.name, self.size) as progress:
-            while True:
-                piece = data.read(PIECE)
-                if not piece:
-                    return
-                yield piece
-                progress.step(len(piece))
+        """The bytes in pieces, with the part that went out on a terminal. Those that were not checked don't go out."""
+        data = b""
+        with suppress(OSError), open(self.path, "rb") as kept:
+            data = kept.read()
+        if hashlib.sha256(data).hexdigest() != self.digest:
+            raise Stop(WRONG, f"{self.path}: it changed since it was checked, and was not uploaded. Run this again.")
+        with Progress(self.name, self.size) as progress:
+            for at in range(0, len(data), PIECE):
+                yield data[at:at + PIECE]
+                progress.step(len(data[at:at + PIECE]))
 
 
 def files_in(folder: str) -> List[str]:

@@ -48,7 +48,7 @@ def upload(args: argparse.Namespace) -> int:
             done += upload_file(desk, file, args.claim)
             tell_ended(desk, cases, file.project)
     except Stop as end:
-        if end.status == WRONG:
+        if end.status == WRONG and not done:
             raise
         note(f"indexctl: {end}", "red")
         status = end.status

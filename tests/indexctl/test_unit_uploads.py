@@ -199,6 +199,16 @@ def test_a_source_archive_that_is_not_compressed_by_gzip_is_refused(tmp_path, mo
         uploads.files_of([str(tmp_path)])
 
 
+@pytest.mark.parametrize("how", [os.remove, lambda path: os.truncate(path, 100), lambda path: os.truncate(path, 9_999)],
+                         ids=["gone", "shorter", "longer"])
+def test_a_file_that_changed_since_it_was_checked_does_not_go_out(tmp_path, how):
+    file = File(wheel(tmp_path))
+    how(file.path)
+    with pytest.raises(Stop, match="frob-1.0-py3-none-any.whl: it changed") as end:
+        next(file.pieces())
+    assert end.value.status == WRONG
+
+
 def test_the_bytes_go_out_in_pieces(tmp_path):
     file = File(wheel(tmp_path, size=uploads.PIECE * 2))
     sizes = [len(it) for it in file.pieces()]

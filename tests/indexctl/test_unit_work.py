@@ -46,7 +46,7 @@ def uploaded(run, monkeypatch):
 
 @pytest.mark.parametrize("ended, status, done", [
     ((True, True), 0, 2), ((True, False), REFUSED, 1), ((False, False), REFUSED, 0),
-    ((True, Stop(UNREACHED, "no answer")), UNREACHED, 1)])
+    ((True, Stop(UNREACHED, "no answer")), UNREACHED, 1), ((True, Stop(WRONG, "it changed")), WRONG, 1)])
 def test_an_upload_says_how_many_files_are_there(uploaded, capsys, ended, status, done):
     assert uploaded(*ended) == status
     assert capsys.readouterr().out == f"{done} of 2 files are there\n"
