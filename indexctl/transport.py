@@ -84,6 +84,11 @@ class Kept(threading.local):
     ahead = 1
 
 
+def basic(login: str) -> str:
+    """What a proxy that asks for a password is told: a user, `:` and the password."""
+    return f"Basic {base64.b64encode(login.encode()).decode()}"
+
+
 class NotSent(Exception):
     """There is no connection, so nothing of a request went out."""
 
@@ -96,7 +101,7 @@ class Index:
         self.parts, self.kept = urllib.parse.urlsplit(setting.url), Kept()
         self.headers: Dict[str, str] = {"User-Agent": "indexctl"}
         if setting.basic:
-            self.headers["Authorization"] = f"Basic {base64.b64encode(setting.basic.encode()).decode()}"
+            self.headers["Authorization"] = basic(setting.basic)
         try:
             self.trust = ssl.create_default_context(cafile=setting.ca) if self.parts.scheme == "https" else None
         except (OSError, ssl.SSLError) as end:
@@ -114,7 +119,8 @@ class Index:
         if proxy and not is_loopback(host) and not urllib.request.proxy_bypass(host):
             through = urllib.parse.urlsplit(proxy if "//" in proxy else f"//{proxy}")
             made = self.opened(through.hostname or "", through.port or 80)
-            made.set_tunnel(host, port or 443)
+            login = f"{urllib.parse.unquote(through.username or '')}:{urllib.parse.unquote(through.password or '')}"
+            made.set_tunnel(host, port or 443, {} if login == ":" else {"Proxy-Authorization": basic(login)})
             return made
         # (without a port http.client takes one from the end of an address of IPv6)
         return self.opened(host, port or (443 if self.trust else 80))
