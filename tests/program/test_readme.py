@@ -91,7 +91,10 @@ def goes_on(ended, clone, looked):
 
 @needs_pip
 def test_tools_try_ends_with_lines_that_work_as_they_stand(clone, looked):
-    ended = pasted(f"{sys.executable} tools/try", clone)
+    # no setting that you have for another index changes what is tried
+    yours = f"INDEX_RECORD={clone}/record INDEX_CA=/none PIP_NO_INDEX=1 http_proxy=http://127.0.0.1:1"
+    ended = pasted(f"{yours} {sys.executable} tools/try", clone)
+    looked(not os.path.exists(f"{clone}/record"), "the record is yours")
     looked("NOT PROVED" in ended.stdout or os.path.exists(f"{clone}/{PROVED}"), ended.stdout)
     goes_on(ended, clone, looked)
 
