@@ -98,9 +98,11 @@ def test_a_log_that_was_copied_and_emptied_loses_no_line(monkeypatch, tmp_path):
 
 
 @pytest.fixture(params=["cut", "overwritten", "no gzip"])
-def damaged(request, tmp_path):
-    """A log, of which the part that was compressed is damaged."""
-    lines = [json.dumps({"at": "2026-11-01T00:00:00+00:00", "body": os.urandom(60).hex()}) + "\n" for _ in range(999)]
+def damaged(request, tmp_path, chance):
+    """A log, of which the part that was compressed is damaged. Its lines have a sign at which splitlines() ends one:
+    such signs may stand behind a damage too."""
+    lines = [json.dumps({"at": "2026-11-01T00:00:00+00:00", "body": f"{chance.randbytes(60).hex()}\u2028"},
+                        ensure_ascii=False) + "\n" for _ in range(999)]
     packed = gzip.compress("".join(lines).encode())
     there = {"cut": packed[:-9000], "overwritten": packed[:30000] + bytes(90) + packed[30090:], "no gzip": b"x"}
     for moment, (name, data) in enumerate((("x.log.2.gz", there[request.param]), ("x.log.1", lines[0].encode()))):
@@ -113,8 +115,8 @@ def damaged(request, tmp_path):
 def test_a_damaged_log_is_told_and_loses_no_other_line(damaged, tmp_path):
     since = datetime.datetime(2026, 11, 1, tzinfo=datetime.timezone.utc)
     said = changes.changes_since([damaged], since, f"{tmp_path}/made").split("\n   ")
-    made = (tmp_path / "made").read_text().splitlines()
-    assert said[0].startswith(f"nginx passed on {len(made) - 1} of them") and len(said) == 2
+    *made, rest = (tmp_path / "made").read_text().split("\n")
+    assert said[0].startswith(f"nginx passed on {len(made) - 1} of them") and len(said) == 2 and not rest
     assert said[1].startswith(f"{damaged}.2.gz: ") and said[1].endswith("no more of this log can be read")
     assert made[-2] == said[1] and json.loads(made[-1])["at"]
 
