@@ -73,6 +73,9 @@ def parts_of(reply):
 class Running:
     """A program that runs as long as the block does. It is then asked to end, and killed where it doesn't."""
 
+    # in seconds
+    ends_within = 5.0
+
     def __init__(self, words, **streams):
         self.words, self.streams = words, {"stdin": subprocess.DEVNULL, **streams}
 
@@ -83,12 +86,15 @@ class Running:
     def __exit__(self, *_):
         self.process.terminate()
         try:
-            self.process.wait(timeout=5)
+            self.process.wait(timeout=self.ends_within)
         except subprocess.TimeoutExpired:
-            self.process.kill()
+            self.kill()
             self.process.wait(timeout=60)
         if self.process.stdout:
             self.process.stdout.close()
+
+    def kill(self):
+        self.process.kill()
 
 
 def make_index(program, path):

@@ -6,6 +6,7 @@ import json
 import os
 import re
 import shutil
+import signal
 import socket
 import ssl
 import subprocess
@@ -92,7 +93,7 @@ class Nginx(Running):
         with open(f"{folder}/nginx.conf", "w") as conf:
             conf.write(MAIN.format(folder=folder))
         words = ["nginx", "-p", folder, "-e", f"{folder}/error.log", "-c", f"{folder}/nginx.conf"]
-        super().__init__(words, stdout=subprocess.DEVNULL, stderr=subprocess.DEVNULL)
+        super().__init__(words, stdout=subprocess.DEVNULL, stderr=subprocess.DEVNULL, start_new_session=True)
 
     def put(self, target: str, text: str, **places: str) -> None:
         os.makedirs(os.path.dirname(f"{self.folder}/{target}"), exist_ok=True)
@@ -108,6 +109,10 @@ class Nginx(Running):
             self.__exit__()
             raise SystemExit("nginx does not listen")
         return self
+
+    def kill(self) -> None:
+        """Its workers too, which it had no time to end: they would go on to listen."""
+        os.killpg(self.process.pid, signal.SIGKILL)
 
     def log(self) -> str:
         """What nginx says of itself and of requests that failed."""
