@@ -10,13 +10,13 @@ import pytest
 from support.needed import want_command
 from support.places import BIN, SERVER
 from support.running import run_command
-from support.server.cluster import DUMPED, FILE, Cluster, cib, switch
+from support.server.cluster import DUMPED, FILE, STATE, Cluster, cib, switch
 from support.server.stand_ins import called, stand_ins
 from support.server.two_machines import FILES, SHOWN
 from support.two_machines.page import BLOCK
 
 LOADED = ["crm configure load update {file}"]
-REACHED = ["crm_resource --resource power-one --locate", "crm_resource --resource power-two --locate"]
+REACHED = ["crm_mon -1 --output-as=xml"] * 2
 
 
 def test_the_copy_for_the_passwords_of_the_switches_is_root_s_alone(folder, looked):
@@ -153,11 +153,43 @@ def test_a_configuration_that_pacemaker_does_not_take_is_shown(cluster):
     assert (ended.returncode, cluster.live()) == (1, cluster.before) and "no luck" in ended.stdout, ended
 
 
-def test_a_switch_that_does_not_answer_pacemaker_is_named(cluster):
-    cluster.put(switches="power-one\n")
+@pytest.mark.parametrize("two", [
+    "", STATE.format("two", "Stopped", "false"), STATE.format("two", "Starting", "false"),
+    STATE.format("two", "Started", "true"), STATE.format("two-b", "Started", "false")],
+    ids=["unknown", "stopped", "asked", "failed", "another"])
+def test_a_switch_that_does_not_answer_pacemaker_is_named(cluster, two):
+    cluster.put(switches=two + STATE.format("one", "Started", "false"))
     ended = cluster.run()
     assert ended.returncode == 1 and "power-two does not answer Pacemaker" in ended.stdout, ended
     assert "power-one answers Pacemaker" in ended.stdout and "crm_mon -1f" in ended.stdout
+
+
+def operation(name, call, code, status, id=""):
+    """What Pacemaker has of something that it did with a switch."""
+    key = "11111111-1111-1111-1111-111111111111"
+    return (f'<lrm_rsc_op id="power-one_{id or name}_0" operation_key="power-one_{name}_0" operation="{name}" '
+            f'interval="0" call-id="{call}" rc-code="{code}" op-status="{status}" transition-key="1:0:0:{key}" '
+            f'transition-magic="{status}:{code};1:0:0:{key}" last-rc-change="1700000000"/>')
+
+
+PROBED, STARTED = operation("monitor", 1, 7, 0), operation("start", 2, 0, 0)
+
+
+@pytest.mark.parametrize("operations, answers", [
+    ("", False), (PROBED, False), (PROBED + operation("start", -1, 193, -1), False), (PROBED + STARTED, True),
+    (PROBED + operation("start", 2, 1, 4), False), (PROBED + operation("start", 2, 1, 2), False),
+    (PROBED + operation("start", 2, 1, 4, "last_failure") + operation("stop", 3, 0, 0), False)],
+    ids=["new", "asked nothing", "asked", "answered", "refused", "silent", "given up"])
+def test_a_switch_answers_once_it_is_started_and_not_while_pacemaker_tries(folder, monkeypatch, operations, answers):
+    """By Pacemaker's own crm_mon. Its crm_resource calls a switch running that it only has begun to ask."""
+    want_command("crm_mon", "pacemaker-cli-utils")
+    states = ('<status><node_state id="1" uname="one" in_ccm="true" crmd="online" join="member" expected="member">'
+              '<lrm id="1"><lrm_resources><lrm_resource id="power-one" type="fence_ipmilan" class="stonith">'
+              f"{operations}</lrm_resource></lrm_resources></lrm></node_state></status>")
+    with open(f"{folder}/cib.xml", "w") as made:
+        made.write(cib(switch("one"), primitives="").replace("<status/>", states))
+    monkeypatch.setenv("CIB_file", made.name)
+    assert runpy.run_path(f"{BIN}/index-cluster")["answers"]("power-one") is answers
 
 
 def by_crmsh(folder, text):

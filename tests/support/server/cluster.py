@@ -21,9 +21,9 @@ esac
 """
 # with CIB_file it reads and writes that file, and without it what Pacemaker has
 CRM = TURN + 'cat made > "${CIB_file:-live}"'
-CRM_RESOURCE = TURN + '''
-if grep -qx "$2" switches; then echo "resource $2 is running on: one"; else echo "resource $2 is NOT running"; fi
-'''
+# a warning, and what Pacemaker has of each switch
+CRM_MON = TURN + 'echo "crm_mon: warning" >&2; echo "<pacemaker-result><resources>"; cat switches; echo "</resources>"'
+STATE = '    <resource id="power-{}" resource_agent="stonith:fence_ipmilan" role="{}" active="true" failed="{}"/>\n'
 DUMPED = """resource index {
     on one {
     }
@@ -64,10 +64,10 @@ class Cluster:
         self.at, self.temporary = f"{folder}/commands", f"{folder}/temporary"
         os.mkdir(self.temporary)
         self.path = stand_ins(self.at, drbdadm=DRBDADM, drbdsetup=TURN + "cat shown", cibadmin=TURN + "cat live",
-                              crm=CRM, crm_resource=CRM_RESOURCE)
+                              crm=CRM, crm_mon=CRM_MON)
         self.file, self.before, self.made = f"{self.at}/{FILE}", cib(""), cib(switch("one") + switch("two"))
-        self.put(shown=SHOWN, dumped=DUMPED, live=self.before, made=self.made, switches="power-one\npower-two\n",
-                 **{FILE: "\n"})
+        self.put(shown=SHOWN, dumped=DUMPED, live=self.before, made=self.made, **{FILE: "\n"},
+                 switches=STATE.format("one", "Started", "false") + STATE.format("two", "Started", "false"))
 
     def put(self, **texts: str) -> None:
         for name, text in texts.items():
@@ -88,7 +88,7 @@ class Cluster:
         """What changed something, or asked a switch. What has a copy of the configuration changes nothing."""
         lines = called(self.at).splitlines()
         loads = [it for it in lines if it.startswith("crm configure")]
-        return loads + [it for it in lines if it.startswith("crm_resource")]
+        return loads + [it for it in lines if it.startswith("crm_mon")]
 
     def live(self) -> str:
         return written(f"{self.at}/live")
