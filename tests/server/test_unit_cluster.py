@@ -4,6 +4,7 @@ import re
 import runpy
 import signal
 import subprocess
+import time
 import xml.etree.ElementTree as ElementTree
 
 import pytest
@@ -290,6 +291,14 @@ def test_drbd_goes_on_if_pacemaker_has_cut_the_power_or_keeps_the_other_from_ser
     assert fence(folder, role, disk, answer) == (status, asked)
     # what a person said counts once
     assert not os.path.exists(f"{folder}/said")
+
+
+@pytest.mark.parametrize("minutes, status, asked", [(9, 7, 0), (11, 1, 1), (-5, 1, 1)])
+def test_what_a_person_said_is_believed_for_ten_minutes(folder, minutes, status, asked):
+    with open(f"{folder}/said", "w") as made:
+        os.utime(made.name, (time.time() - 60 * minutes,) * 2)
+    found, calls = fence(folder, "Primary/Unknown", "UpToDate/DUnknown", 5)
+    assert (found, len(calls)) == (status, asked), calls
 
 
 def test_without_the_name_that_drbd_gives_pacemaker_is_not_asked(folder):

@@ -3,6 +3,7 @@ import os
 import re
 import signal
 import subprocess
+import time
 
 import pytest
 from support.needed import want_command
@@ -256,6 +257,15 @@ def test_the_other_machine_is_off_before_this_one_goes_on(folder, role, disk, wo
         assert calls.index(waited[0]) < calls.index("index-power-off two")
     # what a person said counts once
     assert not os.path.exists(f"{folder}/said")
+
+
+@pytest.mark.parametrize("minutes, status", [(9, 7), (11, 1), (60 * 24 * 14, 1), (-5, 1)])
+def test_what_a_person_said_of_an_earlier_takeover_is_not_believed_when_the_cable_is_out(folder, minutes, status):
+    """An index-take that was killed leaves the file, which is of a later time than now once the clock is set back."""
+    with open(f"{folder}/said", "w") as made:
+        os.utime(made.name, (time.time() - 60 * minutes,) * 2)
+    found, calls = fence(folder, "Primary/Unknown", "UpToDate/DUnknown", 1)
+    assert (found, "index-power-off two" in calls) == (status, status == 1), calls
 
 
 @pytest.mark.parametrize("lacks", ["DRBD_RESOURCE", "DRBD_PEERS"])
