@@ -131,6 +131,20 @@ def test_a_warning_before_the_configuration_changes_nothing(machine, name):
     assert (ended.returncode, machine.state()) == (0, COMMANDS[name][1]), ended
 
 
+def test_a_warning_beside_the_device_changes_nothing(machine, name):
+    machine.put(devices="DRBD module version: 8.4.11\n   userland version: 9.22.0\n/dev/drbd0\nplease don't mix.\n")
+    ended = machine.run(name)
+    assert (ended.returncode, machine.called(), machine.state()) == (0, *COMMANDS[name]), ended
+
+
+@pytest.mark.parametrize("devices", ["", "no device\n", "/dev/drbd0\n/dev/drbd1\n"])
+def test_a_disk_of_no_device_or_of_several_is_left_alone(machine, name, devices):
+    machine.put(devices=devices)
+    before, ended = machine.state(), machine.run(name)
+    assert (ended.returncode, machine.called(), machine.state()) == (1, [], before), ended
+    assert "drbdadm sh-dev index prints" in ended.stdout, ended
+
+
 @pytest.mark.parametrize("word", ["-h", "--help"])
 def test_help_is_printed(machine, name, word):
     ended = machine.run(name, word)

@@ -35,7 +35,10 @@ def running_disk(resource: str) -> Disk:
     """The disk of this resource. Refuses if it is not up here, or if its running configuration is not safe."""
     if not NAME.fullmatch(resource):
         raise Refused(f"{resource!r} is not the name of a resource")
-    device = run("drbdadm", "sh-dev", resource).strip()
+    printed = run("drbdadm", "sh-dev", resource)
+    devices = re.findall(r"^/dev/\S+$", printed, re.MULTILINE)
+    if len(devices) != 1:
+        raise Refused(f"drbdadm sh-dev {resource} prints {len(devices)} devices, and not one: {printed.strip()}")
     shown = shown_of(resource)
     found = [said for pattern, said in WRONG if re.search(pattern, shown, re.DOTALL)]
     if not re.search(r"\bfence-peer\s+\S", run("drbdadm", "dump", resource)):
@@ -44,7 +47,7 @@ def running_disk(resource: str) -> Disk:
         raise Refused(f"{resource} is not safe as it runs: {'; '.join(found)}. Compare /etc/drbd.d/{resource}.res on "
                       "both machines with /usr/share/package-index/two-machines/index.res, and correct it; then "
                       f"drbdadm adjust {resource}")
-    return Disk(resource, device)
+    return Disk(resource, devices[0])
 
 
 def shown_of(resource: str) -> str:

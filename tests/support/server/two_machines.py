@@ -33,7 +33,7 @@ case $1 in
     secondary) [ -s mounts ] && { echo "(-12) Device is held open by someone"; exit 11; }
                echo Secondary > role ;;
     sh-dev) [ "$2" = index ] || { echo "'$2' not defined in your config (for this host)."; exit 1; }
-            echo /dev/drbd0 ;;
+            cat devices ;;
     dump) cat dumped ;;
     dstate) cat disks ;;
     role) echo "$(cat role)/Secondary" ;;
@@ -95,7 +95,8 @@ class Machine:
         self.at = f"{folder}/commands"
         self.path = stand_ins(self.at, drbdadm=DRBDADM, drbdsetup=TURN + "cat shown", mount=MOUNT, umount=UMOUNT,
                               systemctl=SYSTEMCTL)
-        self.put(shown=SHOWN, dumped=DUMPED, role="Secondary\n", mounts="", disks="UpToDate/UpToDate\n")
+        self.put(shown=SHOWN, dumped=DUMPED, role="Secondary\n", mounts="", disks="UpToDate/UpToDate\n",
+                 devices="/dev/drbd0\n")
 
     def put(self, **texts: str) -> None:
         for name, text in texts.items():
