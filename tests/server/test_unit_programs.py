@@ -7,6 +7,8 @@ import threading
 
 import pytest
 from support.places import BIN
+from support.running import run_command
+from support.server.stand_ins import stand_ins
 
 PYTHON = sorted(name for name in os.listdir(BIN) if name not in ("index-alarm", "__pycache__"))
 
@@ -76,6 +78,27 @@ def test_a_mistake_is_answered_in_a_sentence(tmp_path, name, words, status, said
                            stderr=subprocess.STDOUT, stdin=subprocess.DEVNULL, timeout=60)
     assert ended.returncode == status and "Traceback" not in ended.stdout, ended.stdout
     assert said.format(**places) in ended.stdout.splitlines()[-1], ended.stdout
+
+
+@pytest.mark.parametrize("name, words", [
+    ("index-metrics", ["{}/none", "{}", "--url", "http://127.0.0.1:1"]), ("index-log", ["{}/file"])])
+def test_what_can_not_be_printed_is_told_in_a_sentence(tmp_path, name, words):
+    """As into a file on a full disk, where Python prints that it ignores an exception, and ends with status 120."""
+    (tmp_path / "file").touch()
+    ended = run_command(["sh", "-c", '"$@" > /dev/full', "sh", f"{BIN}/{name}", *(it.format(tmp_path) for it in words)])
+    assert (ended.returncode, ended.stdout) == (1, f"{name}: [Errno 28] No space left on device\n")
+
+
+@pytest.mark.parametrize("name, words, status", [
+    ("index-health", ["--patience", "0.05", "http://127.0.0.1:1"], 3),
+    ("index-uncache", ["frob", "--cache", "{}/none"], 2), ("index-backup", ["{}/none", "{}"], 1),
+    ("index-alarms", ["--state", "{}/state", "--backups", "{}"], 9)])
+def test_a_status_stays_though_what_is_wrong_can_not_be_written(tmp_path, name, words, status):
+    """As into a file on a full disk, of which the status tells."""
+    path = stand_ins(f"{tmp_path}/commands", systemctl="")
+    (tmp_path / "state").write_text('{"begun": 0, "day": [], "raised": {}}')
+    words = [f"{BIN}/{name}", *(it.format(tmp_path) for it in words)]
+    assert run_command(["sh", "-c", '"$@" 2> /dev/full', "sh", *words], PATH=path).returncode == status
 
 
 def test_what_is_not_there_yet_is_told_and_waited_for(tmp_path):

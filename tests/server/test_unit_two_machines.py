@@ -75,6 +75,13 @@ def test_that_the_other_machine_is_off_is_believed_for_one_takeover_alone(machin
     assert (ended.returncode, os.path.exists(said)) == (int(peer), False), ended
 
 
+def test_what_can_not_be_printed_stops_no_takeover(machine, name):
+    """As into a file on a full disk, and through a pipe that nobody reads any more."""
+    machine.front = ["sh", "-c", 'exec "$@" > /dev/full', "sh"]
+    ended = machine.run(name)
+    assert (ended.returncode, ended.stdout, machine.state()) == (0, "", COMMANDS[name][1]), ended
+
+
 WRONG = [
     ("fencing         \tresource-and-stonith;", "", "lacks `fencing resource-and-stonith`"),
     ("resource-and-stonith", "resource-only", "lacks `fencing resource-and-stonith`"),

@@ -64,7 +64,8 @@ def words_of(usage: str, least: int, most: int) -> List[str]:
 
 
 def tell(text: str) -> None:
-    """Prints. If nobody reads any more, as when the terminal was closed, what is left is done all the same."""
+    """Prints. If nobody reads any more, as when the terminal was closed, or the disk is full, what is left is done all
+    the same."""
     try:
         print(text, end="", flush=True)
     except OSError:
@@ -72,8 +73,11 @@ def tell(text: str) -> None:
 
 
 def say(name: str, text: object) -> None:
-    """A line of a program on standard error."""
-    print(f"{name}: {text}", file=sys.stderr, flush=True)
+    """A line of a program on standard error. If that can't be written, as on a full disk, its status tells."""
+    try:
+        print(f"{name}: {text}", file=sys.stderr, flush=True)
+    except OSError:
+        sys.stderr = open(os.devnull, "w")
 
 
 def status_of(name: str, main: Callable[[], int]) -> int:
@@ -84,9 +88,13 @@ def status_of(name: str, main: Callable[[], int]) -> int:
         if signal.getsignal(number) is not signal.SIG_IGN:
             signal.signal(number, interrupt)
     try:
-        return main()
+        status = main()
+        sys.stdout.flush()
+        return status
     except (Refused, OSError) as end:
         say(name, end)
+        # what can't be printed is not tried again at the end of Python
+        tell("")
         return 1
     except Interrupted as end:
         say(name, "stopped")

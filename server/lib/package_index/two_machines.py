@@ -6,7 +6,7 @@ from contextlib import contextmanager
 from typing import Iterator, NamedTuple
 
 from package_index.commands import run
-from package_index.ends import Interrupted, Refused, held, say
+from package_index.ends import Interrupted, Refused, held, say, tell
 
 FOLDER = "/var/lib/index"
 MOUNTS = "/proc/self/mounts"
@@ -76,7 +76,7 @@ def step(*words: str, says: str) -> None:
     """Runs a command to its end, which a signal does not cut short, and prints what holds now."""
     with held():
         run(*words)
-        print(says, flush=True)
+        tell(f"{says}\n")
 
 
 @contextmanager

@@ -93,6 +93,8 @@ class Machine:
 
     def __init__(self, folder: str) -> None:
         self.at = f"{folder}/commands"
+        # what runs each command, if that is not this program
+        self.front: list[str] = []
         self.path = stand_ins(self.at, drbdadm=DRBDADM, drbdsetup=TURN + "cat shown", mount=MOUNT, umount=UMOUNT,
                               systemctl=SYSTEMCTL)
         self.put(shown=SHOWN, dumped=DUMPED, role="Secondary\n", mounts="", disks="UpToDate/UpToDate\n",
@@ -111,8 +113,8 @@ class Machine:
     def run(self, name: str, *words: str, **setting: str) -> subprocess.CompletedProcess:
         """The end of a command that was given these words; `called` has what it called."""
         self.remove("called")
-        return run_command([sys.executable, "-c", RUN, f"{SERVER}/lib", f"{self.at}/mounts", f"{BIN}/{name}",
-                            *words], PATH=self.path, **setting)
+        return run_command([*self.front, sys.executable, "-c", RUN, f"{SERVER}/lib", f"{self.at}/mounts",
+                            f"{BIN}/{name}", *words], PATH=self.path, **setting)
 
     def called(self) -> list[str]:
         """What was called, but what only reads."""
