@@ -14,13 +14,14 @@ from support.server.two_machines import DUMPED, FILES, LEFT, SERVES, SHOWN, SIGN
 
 TAKEN = ["drbdadm primary index", "mount -o noatime /dev/drbd0 /var/lib/index",
          "systemctl start index.service index-health.timer index-backup.timer"]
-GIVEN_UP = ["systemctl stop index-health.timer index-backup.timer index-health.service index-backup.service "
-            "index.service", "umount /var/lib/index", "drbdadm secondary index"]
+GIVEN_UP = ["systemctl stop index-health.timer index-backup.timer index-health.service index-backup.service",
+            "systemctl stop index.service", "umount /var/lib/index", "drbdadm secondary index"]
 # what each command does, and the state that it makes
 COMMANDS = {"index-take": (TAKEN, SERVES), "index-leave": (GIVEN_UP, LEFT)}
 # the states of a machine between these steps
 BETWEEN = {"index-take": [LEFT, ("Primary", "", False), ("Primary", "/dev/drbd0", False), SERVES],
-           "index-leave": [SERVES, ("Primary", "/dev/drbd0", False), ("Primary", "", False), LEFT]}
+           "index-leave": [SERVES, SERVES, ("Primary", "/dev/drbd0", False), ("Primary", "", False), LEFT]}
+STEPS = [(name, at) for name, (calls, _) in COMMANDS.items() for at in range(1, len(calls) + 1)]
 # what only reads comes first
 READS = {"index-take": 4, "index-leave": 3}
 NO_NAME = "is not the name of a resource"
@@ -55,6 +56,13 @@ def test_the_second_time_a_command_changes_nothing(machine, name):
         ended = machine.run(name)
         assert (ended.returncode, machine.state()) == (0, COMMANDS[name][1]), ended
     assert [line for line in machine.called() if "mount" in line.split()[0]] == []
+
+
+def test_a_backup_that_has_stopped_the_index_serves_on_no_machine_that_gives_it_up(machine):
+    assert machine.run("index-take").returncode == 0
+    machine.put(backs_up="")
+    ended = machine.run("index-leave")
+    assert (ended.returncode, machine.called(), machine.state()) == (0, GIVEN_UP, LEFT), ended
 
 
 def test_what_says_that_the_other_machine_is_off_has_one_path():
@@ -181,7 +189,7 @@ def test_while_the_other_machine_may_be_primary_nothing_is_mounted(machine):
 
 
 @pytest.mark.parametrize("number", SIGNALS)
-@pytest.mark.parametrize("at", [1, 2, 3])
+@pytest.mark.parametrize("name, at", STEPS, indirect=["name"])
 def test_a_signal_at_each_step_ends_it_behind_that_step_and_it_goes_on_or_back(machine, name, at, number):
     machine.put(stops=f"{READS[name] + at}", signal=number)
     ended = machine.run(name)
@@ -194,7 +202,7 @@ def test_a_signal_at_each_step_ends_it_behind_that_step_and_it_goes_on_or_back(m
         assert (ended.returncode, machine.state()) == (0, COMMANDS[again][1]), ended
 
 
-@pytest.mark.parametrize("at", [1, 2, 3])
+@pytest.mark.parametrize("name, at", STEPS, indirect=["name"])
 def test_a_step_that_fails_ends_it_there_and_it_goes_on_or_back(machine, name, at):
     machine.put(fails=f"{READS[name] + at}")
     ended = machine.run(name)

@@ -52,7 +52,9 @@ SYSTEMCTL = TURN + """
 case $1 in
     start) [ -s mounts ] || { echo "Assertion failed"; exit 1; }
            touch served ;;
-    stop) rm -f served ;;
+    stop) case " $* " in *" index.service "*) rm -f served ;; esac
+          # a backup that has stopped the index starts it again as it ends, after the others were stopped
+          case "$*" in *index-backup.service*) [ ! -e backs_up ] || { rm backs_up; touch served; } ;; esac ;;
 esac
 """
 # `drbdsetup show index` of DRBD 8.4.11 with index.res of server/two-machines
