@@ -276,7 +276,7 @@ class TestChangesSince:
         assert bodies == [f"change {it}" for it in range(1, 6)]
 
     def test_rotated_logs_are_read_too_and_the_oldest_first(self, by, begun):
-        """By when each was written: their names tell how often they were rotated."""
+        """Their names tell how often they were rotated."""
         bodies = [f"change {number}" for number in range(12)]
         for age, body in enumerate(reversed(bodies)):
             path, moment = f"{by.log}.{age}" if age else by.log, begun.timestamp() + 1000 - 10 * age

@@ -36,6 +36,17 @@ def test_only_logs_that_were_rotated_away_since_are_read(tmp_path, known, lines)
     assert [it.strip() for it in followed.rotated_since(str(tmp_path / "x.log"), inode)] == lines
 
 
+@pytest.mark.parametrize("known, lines", [("x.log.2", ["c"]), ("x.log-20260101", ["a", "c"]), ("x.log.1", [])])
+def test_what_was_rotated_away_after_the_clock_was_set_back_is_read(tmp_path, known, lines):
+    """What was written last is the oldest then. A log that logrotate names by its date has no number."""
+    written = ("x.log.1", "c"), ("x.log", "d"), ("x.log.2", "a"), ("x.log-20260101", "b")
+    for moment, (name, line) in enumerate(written):
+        (tmp_path / name).write_text(f"{line}\n")
+        os.utime(tmp_path / name, (moment, moment))
+    found = followed.rotated_since(str(tmp_path / "x.log"), os.stat(tmp_path / known).st_ino)
+    assert [it.strip() for it in found] == lines
+
+
 @pytest.mark.parametrize("at, read, left", [(0, 2, b"b\n"), (1, 2, b"d\n"), (1, 4, b""), (1, 5, None), (1, 0, None)])
 def test_a_log_is_read_from_its_place_on_though_it_was_rotated_away(tmp_path, at, read, left):
     """One of which nothing was read is not known again."""

@@ -6,6 +6,7 @@ import glob
 import gzip
 import json
 import os
+import re
 import zlib
 from typing import Iterator, List, Optional, Sequence, Tuple
 
@@ -30,9 +31,15 @@ def moment_of(line: str, since: datetime.datetime) -> Optional[datetime.datetime
 
 
 def rotated(log: str) -> List[str]:
-    """A log and those of it that were rotated away, the oldest first: by when each was written last, since a name says
-    only how often it was rotated."""
-    return sorted((it for it in glob.glob(f"{glob.escape(log)}*") if os.path.isfile(it)), key=os.path.getmtime)
+    """A log and those of it that were rotated away, the oldest first."""
+    return sorted((it for it in glob.glob(f"{glob.escape(log)}*") if os.path.isfile(it)), key=lambda it: age(log, it))
+
+
+def age(log: str, path: str) -> Tuple[int, float]:
+    """What sorts the files of a log: how often each was rotated, by its name, which no clock that is set changes. Those
+    of other names, such as those with a date, come first, by when each was written last."""
+    number = re.fullmatch(r"\.(\d{1,4})(\.\w+)?", path[len(log):])
+    return (2, 0) if path == log else (1, -int(number[1])) if number else (0, os.path.getmtime(path))
 
 
 def lines_of(path: str) -> Iterator[str]:
