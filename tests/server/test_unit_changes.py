@@ -54,6 +54,22 @@ def test_a_log_that_begins_after_the_copy_may_lack_what_came_before(tmp_path, fi
     assert said.endswith(f"oldest first.{wanted}")
 
 
+@pytest.mark.parametrize("moments, told", [
+    (["03:16", "03:20", "02:25", "02:30"], ["02:25"]), (["03:10", "02:25", "03:16"], ["02:25"]),
+    (["03:16", "02:15", "03:17", "02:16"], ["02:15", "02:16"]), (["03:10", "03:09"], []), (["03:20", "03:16"], []),
+    (["03:00", "03:14", "03:16"], [])])
+def test_changes_of_after_a_clock_that_was_set_back_may_seem_older_than_the_copy_and_that_is_told(
+        tmp_path, moments, told):
+    """The copy is of 03:15, by a clock that was an hour ahead."""
+    files = f"{tmp_path}/changes.log.1", f"{tmp_path}/changes.log"
+    for path, part in zip(files, (moments[:2], moments[2:])):
+        with open(path, "w") as log:
+            log.writelines(f'{{"at":"2026-01-01T{at}:00+00:00"}}\nno time\n' for at in part)
+    said = changes.changes_since([files[1]], datetime.datetime(2026, 1, 1, 3, 15, tzinfo=UTC), f"{tmp_path}/made")
+    found = [it.partition(" was set back to 2026-01-01 ")[2][:5] for it in said.split("\n   ") if "set back" in it]
+    assert found == told, said
+
+
 def test_changes_of_several_fronts_come_oldest_first(tmp_path):
     at = '{{"body":"{}","at":"2026-01-01T00:00:0{}+0{}:00"}}\n'.format
     fifth = '{"body":"fifth"}'

@@ -10,6 +10,8 @@ import re
 import zlib
 from typing import Iterator, List, Optional, Sequence, Tuple
 
+# lines of several processes of nginx stand so far from their order at most
+SLACK = datetime.timedelta(minutes=1)
 # how a line ends that stands for the rest of a damaged log; no line of nginx does
 DAMAGED = "no more of this log can be read"
 
@@ -71,6 +73,14 @@ def late(log: str, since: datetime.datetime) -> List[str]:
     return [said] if first > since else []
 
 
+def set_back(log: str, since: datetime.datetime) -> List[str]:
+    """What to say of a log whose clock was set back to before this moment: what came then seems to be older than it."""
+    moments = [it for path in rotated(log) for it in map(moment_in, lines_of(path)) if it]
+    return [f"The clock of {log} was set back to {now.astimezone(datetime.timezone.utc):%Y-%m-%d %H:%M:%S} UTC. If the "
+            "copy was made before, changes of after that are missing: look for them in the log."
+            for before, now in zip(moments, moments[1:]) if now < since and before - now > SLACK]
+
+
 def changes_since(logs: Sequence[str], since: datetime.datetime, target: str) -> str:
     """Gathers the lines of logs of changes, and of those that were rotated away, into a file. Returns what to say of
     it."""
@@ -82,5 +92,5 @@ def changes_since(logs: Sequence[str], since: datetime.datetime, target: str) ->
             made.writelines(line for _, line in lines)
         damaged = [line.strip() for _, line in lines if line.endswith(f"{DAMAGED}\n")]
         said = [f"nginx passed on {len(lines) - len(damaged)} of them. They are in {target}, oldest first.",
-                *damaged, *said, *(it for log in logs for it in late(log, since))]
+                *damaged, *said, *(it for log in logs for it in late(log, since) + set_back(log, since))]
     return "\n   ".join(said)
