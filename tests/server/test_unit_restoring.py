@@ -2,6 +2,7 @@
 import datetime
 import os
 import signal
+import time
 import types
 
 import pytest
@@ -12,7 +13,7 @@ from support.running import run_command
 from support.server.caches import keys, make_cache
 from support.server.expected import assert_ends
 from support.server.stand_ins import called, stand_ins
-from support.unit import calls, ends, raises
+from support.unit import calls, ends, raises, with_time
 
 RESTORE = program_of("index-restore")
 Refused = library_ends.Refused
@@ -68,6 +69,17 @@ def test_a_copy_is_tested_before_the_units_stop_and_caches_are_emptied_last(tmp_
     assert sorted(os.listdir(world.folder)) == [aside.name, "index.db"]
     assert sorted(os.listdir(aside)) == ["forgotten", "index.db", "index.db-wal"]
     assert not signal.pthread_sigmask(signal.SIG_BLOCK, []) & set(library_ends.SIGNALS)
+
+
+def test_of_two_restores_within_a_second_the_later_one_waits_for_a_name(tmp_path, monkeypatch):
+    """The folder of what the first put aside would be that of the second."""
+    world, now = World(tmp_path, monkeypatch), [1_000_000_000.0]
+    with_time(monkeypatch, RESTORE, gmtime=lambda: time.gmtime(now[0]))
+    with_time(monkeypatch, RESTORE, sleep=lambda seconds: now.append(now.pop() + seconds))
+    for _ in range(2):
+        world.restored()
+    assert sorted(it.name for it in world.folder.glob("before-*")) == ["before-20010909T014640Z",
+                                                                        "before-20010909T014641Z"]
 
 
 def test_what_is_forgotten_is_not_written_where_a_link_leads(tmp_path, monkeypatch, capsys):
