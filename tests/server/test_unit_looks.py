@@ -64,8 +64,8 @@ def copy(folder, hours_ago, written=None):
     return path
 
 
-def late(folder, begun=1000.0):
-    return [text.partition(":")[0] for text in looks.backups(str(folder), NOW, NOW - begun * HOUR)]
+def late(folder, begun=1000.0, units=()):
+    return [text.partition(":")[0] for text in looks.backups(str(folder), units, NOW, NOW - begun * HOUR)]
 
 
 def test_a_backup_is_late_by_the_earlier_of_its_name_and_its_file(tmp_path):
@@ -98,6 +98,18 @@ def test_of_several_indexes_each_has_its_own_backups(tmp_path, monkeypatch):
     monkeypatch.setattr(looks.os, "listdir", lambda it: sorted(listed(it), key=lambda name: name[::-1]))
     assert late(tmp_path) == [f"no backup was made in {tmp_path}/{port} for {hours} hours"
                               for port, hours in ((8082, 27), (8083, 28), (8091, 30))]
+
+
+def test_an_index_of_several_whose_backups_never_began_is_told(tmp_path):
+    """The first backup of each makes its folder."""
+    units = {"index@8081.service": 0, "index@8080.service": 3, "index-legacy-upload.service": 0}
+    told = [f"no backup was made in {tmp_path}/{port} for 30 hours" for port in (8080, 8081)]
+    assert late(tmp_path, 30, units) == told
+    # beside an index that has the whole folder
+    assert late(tmp_path, 30, {**units, "index.service": 0})[1:] == told
+    (tmp_path / "8080").mkdir()
+    copy(tmp_path / "8080", 2)
+    assert late(tmp_path, 30, units) == told[1:] and late(tmp_path, 25, units) == []
 
 
 def test_the_log_of_a_copy_that_is_under_way_is_no_backup(tmp_path):

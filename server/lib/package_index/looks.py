@@ -65,15 +65,18 @@ def made_at(copy: str) -> float:
     return min(named.timestamp(), written) if named else written
 
 
-def folders_of(backups: str) -> List[str]:
-    """The folder of copies, or those of several indexes in it, which are named by their ports."""
-    names = sorted(os.listdir(backups)) if os.path.isdir(backups) else []
-    return [f"{backups}/{it}" for it in names if it.isdigit()] or [backups]
+def folders_of(backups: str, units: Iterable[str]) -> List[str]:
+    """The folder of copies, or those of several indexes in it, which are named by their ports: also those that are not
+    there of units that are."""
+    there = {it for it in (os.listdir(backups) if os.path.isdir(backups) else ()) if it.isdigit()}
+    ports = {it.partition("@")[2].partition(".")[0] for it in units if "@" in it}
+    own = [] if there or ports and "index.service" not in units else [backups]
+    return own + [f"{backups}/{it}" for it in sorted(there | ports)]
 
 
-def backups(folder: str, now: float, begun: float) -> Iterable[str]:
-    """Of an index that is looked at since `begun`. A copy of a later time than now counts for nothing."""
-    for each in folders_of(folder):
+def backups(folder: str, units: Iterable[str], now: float, begun: float) -> Iterable[str]:
+    """Of indexes that are looked at since `begun`. A copy of a later time than now counts for nothing."""
+    for each in folders_of(folder, units):
         names = os.listdir(each) if os.path.isdir(each) else []
         moments = [made_at(f"{each}/{it}") for it in names if COPY.fullmatch(it)]
         made = max((it for it in moments if it <= now), default=begun)
