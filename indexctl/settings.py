@@ -138,13 +138,11 @@ def setting_from(place: str, url_name: str, values: Mapping[str, str], token: st
 
 
 def setting_of_environment() -> Setting:
-    def given(name: str) -> str:
-        return os.environ.get(name, "")
-    values = {"url": given("INDEX_URL"), "ca": given("INDEX_CA"), "record": given("INDEX_RECORD")}
-    token, source = given("INDEX_TOKEN").strip(), "INDEX_TOKEN"
-    if given("INDEX_TOKEN_FILE"):
-        token, source = read_secret(given("INDEX_TOKEN_FILE"), "INDEX_TOKEN_FILE"), "INDEX_TOKEN_FILE"
-    return setting_from("the environment", "INDEX_URL", values, token, source)
+    given = {key: os.environ.get(f"INDEX_{key.upper()}", "") for key in ("url", "ca", "record", "token", "token_file")}
+    token, source = given["token"].strip(), "INDEX_TOKEN"
+    if given["token_file"]:
+        token, source = read_secret(given["token_file"], "INDEX_TOKEN_FILE"), "INDEX_TOKEN_FILE"
+    return setting_from("the environment", "INDEX_URL", given, token, source)
 
 
 def read_profiles() -> Dict[str, Dict[str, str]]:

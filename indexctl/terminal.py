@@ -150,6 +150,14 @@ def listing(args: argparse.Namespace, rows: Sequence[Any], columns: Columns,
     put("\n".join((paint(head, "bold"), *others)))
 
 
+def show(args: argparse.Namespace, row: Any, found: Mapping[str, str]) -> None:
+    """Prints one row as JSON if --json was given, else these texts of it below each other."""
+    if args.json:
+        put(json.dumps(as_json(row), indent=1))
+    else:
+        print_block({head: printable(text) for head, text in found.items()}, shutil.get_terminal_size().columns)
+
+
 def print_block(pairs: Mapping[str, str], most: int) -> None:
     """Prints the cells of one row below each other, for a terminal that is too narrow for a table; those without a text
     are left out. A word that is too long for a line, such as a digest, is left to the terminal, so that it can be

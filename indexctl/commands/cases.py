@@ -2,8 +2,6 @@
 from __future__ import annotations
 
 import argparse
-import json
-import shutil
 import time
 
 from indexctl.cases import MEANS, CaseRow, lacks_text, ready_text
@@ -16,7 +14,7 @@ from indexctl.ends import REFUSED, WRONG, Stop
 from indexctl.names import check_names, check_texts
 from indexctl.probe import open_cases
 from indexctl.standings import held_names
-from indexctl.terminal import Columns, as_json, confirm, listing, note, print_block, printable, put, texts
+from indexctl.terminal import Columns, confirm, listing, note, show, texts
 from indexctl.units import moment
 from indexctl.uploads import MOST_TEXT
 
@@ -52,11 +50,7 @@ def case_show(args: argparse.Namespace) -> None:
     rows, _ = open_cases(desk, [found], now)
     if not rows:
         raise Stop(REFUSED, f"The case of {args.name} has ended just now.")
-    if args.json:
-        put(json.dumps(as_json(rows[0]), indent=1))
-        return
-    print_block({head: printable(text(rows[0])) for head, text in CASE_COLUMNS.items()},
-                shutil.get_terminal_size().columns)
+    show(args, rows[0], {head: text(rows[0]) for head, text in CASE_COLUMNS.items()})
 
 
 @command("case open", "asks for a name whose owner can't be reached", NAME,

@@ -2,10 +2,8 @@
 from __future__ import annotations
 
 import argparse
-import json
-import shutil
 import time
-from dataclasses import asdict, dataclass
+from dataclasses import dataclass
 from typing import Any, Dict, List, Optional
 
 from indexctl.cases import CaseRow, lacks_text, ready_text
@@ -18,7 +16,7 @@ from indexctl.names import check_names
 from indexctl.near import not_held
 from indexctl.probe import open_cases
 from indexctl.standings import Standing, find_standing
-from indexctl.terminal import Columns, listing, print_block, printable, put, texts
+from indexctl.terminal import Columns, listing, show, texts
 from indexctl.transport import Index
 from indexctl.units import counted, human
 
@@ -75,12 +73,8 @@ def status(args: argparse.Namespace) -> None:
     if found.state == "free":
         raise Stop(REFUSED, not_held(desk.index, args.name))
     row = status_row(desk, found)
-    if args.json:
-        put(json.dumps(asdict(row), indent=1))
-        return
-    most = shutil.get_terminal_size().columns
-    print_block({head: printable(text) for head, text in status_texts(row).items()}, most)
-    if row.files:
+    show(args, row, status_texts(row))
+    if row.files and not args.json:
         listing(args, releases_of(row.name, row.files), RELEASE_COLUMNS)
 
 

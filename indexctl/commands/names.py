@@ -17,12 +17,12 @@ from indexctl.units import counted
 from package_index.names import normal
 
 
-def each_name(args: argparse.Namespace, do: str) -> int:
-    """The same change for each of the names."""
+def each_name(args: argparse.Namespace, do: str, what: str, **row: object) -> int:
+    """The same change for each of the names. `what` is what it is called, with a place for the name."""
     check_names(*args.names)
     desk = Desk(args)
     for name in args.names:
-        desk.change(f"{do} {name}", {"do": do, "name": name})
+        desk.change(what.format(name), {"do": do, "name": name, **row})
     return desk.status()
 
 
@@ -45,7 +45,7 @@ def tell_uncache(project: str, files: Sequence[str]) -> None:
 
 @command("name claim", "claims names that nobody holds", NAMES)
 def name_claim(args: argparse.Namespace) -> int:
-    return each_name(args, "claim")
+    return each_name(args, "claim", "claim {}")
 
 
 @command("name relinquish", "gives a name up, so that anybody may claim it", NAME, YES)
@@ -77,23 +77,14 @@ def name_prohibit(args: argparse.Namespace) -> int:
 
 @command("name allow", "frees names that were prohibited (office)", NAMES)
 def name_allow(args: argparse.Namespace) -> int:
-    return each_name(args, "allow")
-
-
-def each_owner(args: argparse.Namespace, do: str, said: str) -> int:
-    """The same change of owners, by this user, for each of the names."""
-    check_names(*args.names)
-    check_users(args.user)
-    desk = Desk(args)
-    for name in args.names:
-        desk.change(said.format(name=name, user=args.user), {"do": do, "name": name, "user": args.user})
-    return desk.status()
+    return each_name(args, "allow", "allow {}")
 
 
 @command("owner add", "makes a user an owner of names", USER, NAMES)
 def owner_add(args: argparse.Namespace) -> int:
     """An owner may do everything with a name, also remove you. Give each pipeline a user of its own."""
-    return each_owner(args, "add_owner", "{name}: add owner {user}")
+    check_users(args.user)
+    return each_name(args, "add_owner", f"{{}}: add owner {args.user}", user=args.user)
 
 
 @command("owner remove", "takes a user off the owners of names", USER, NAMES, YES)
@@ -103,7 +94,7 @@ def owner_remove(args: argparse.Namespace) -> int:
     check_names(*args.names)
     index = Desk(args).index
     confirm_on_terminal(args, " ".join(tell_owners(index, args.user, name) for name in args.names))
-    return each_owner(args, "remove_owner", "{name}: remove owner {user}")
+    return each_name(args, "remove_owner", f"{{}}: remove owner {args.user}", user=args.user)
 
 
 def tell_owners(index: Index, user: str, name: str) -> str:
