@@ -59,7 +59,8 @@ class Desk:
         token, name = token or self.token(), name_in(row)
         # of several indexes behind one address, nginx chooses by the last of these headers
         headers: Headers = (*request.headers, ("X-Index-Token", token))
-        headers += (("X-Index-Name", normal(name)),) if name else ()
+        # (a record that is replayed may have any text for a name)
+        headers += (("X-Index-Name", normal(name)),) if name and name.isascii() and name.isprintable() else ()
         request = replace(request, headers=headers, is_once=row["do"] in NEVER_ALREADY)
         line: Row = {"at": moment_now(), "caller": sha256(token)[:8], "index": self.setting.url, **more, **row}
         with self.room(line, is_kept) as keep:

@@ -63,11 +63,11 @@ def read_line(number: int, text: str) -> Optional[Line]:
     found = object_of(text.encode())
     if found is None or not isinstance(found.get("at"), str):
         raise Stop(WRONG, f"Line {number} is not a line of a record: {text[:100]!r}. Use a copy without it.")
-    at = read_moment(found.pop("at"))
+    at = read_moment(found.pop("at"), f"Line {number}: ")
     caller = index = again = unanswered = None
     if "status" not in found:
         caller, index, row = found.pop("caller", ""), found.pop("index", None), found
-        again = read_moment(str(found.pop("again"))) if "again" in found else None
+        again = read_moment(str(found.pop("again")), f"Line {number}: ") if "again" in found else None
     elif found["status"] in (200, 201):
         row = logged_row(found)
     elif is_unanswered(found):

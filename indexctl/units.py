@@ -56,8 +56,8 @@ def moment_now() -> str:
     return iso(int(time.time()))
 
 
-def read_moment(text: str) -> int:
-    """The Unix seconds of a moment: ISO 8601 as nginx and this program write it, or the name of a backup."""
+def read_moment(text: str, place: str = "") -> int:
+    """The Unix seconds of a moment at this place: ISO 8601 as nginx and this program write it, or a backup's name."""
     backup = re.search(r"(\d{8}T\d{6}Z)(?:\.db)?$", text)
     try:
         if backup:
@@ -65,5 +65,6 @@ def read_moment(text: str) -> int:
         else:
             found = datetime.datetime.fromisoformat(re.sub("Z$", "+00:00", text))
     except ValueError as end:
-        raise Stop(WRONG, f"{text!r} is not a moment. Write 2026-11-24T03:15:00Z, or the name of the backup.") from end
+        raise Stop(WRONG, f"{place}{text!r} is not a moment. Write 2026-11-24T03:15:00Z, or the name of the "
+                          "backup.") from end
     return int((found if found.tzinfo else found.replace(tzinfo=datetime.timezone.utc)).timestamp())

@@ -45,9 +45,12 @@ def test_a_request_goes_out_with_the_token_and_the_name(desk):
     assert (json.loads(body), sent.length) == ({"do": "claim", "name": "A_b"}, len(body))
 
 
-def test_a_request_without_a_name_has_no_header_for_it(desk):
+@pytest.mark.parametrize("row", [{"do": "add_user", "user": "bob"}, *({"do": "claim", "name": it} for it in (
+    "\u4e2d", "\ud800", "a\r\nb"))])
+def test_a_request_without_a_name_has_no_header_for_it(desk, row):
+    """A line of a record may have any text for a name: the index refuses it, and the replay goes on."""
     one = desk(answer())
-    one.change("x", {"do": "add_user", "user": "bob"})
+    one.change("x", row)
     assert dict(one.index.asked[0].headers) == {"X-Index-Token": "office"}
 
 

@@ -101,8 +101,9 @@ def test_a_line_that_can_t_be_read_is_told(text):
 
 
 def test_a_moment_that_is_none_is_told():
-    with pytest.raises(Stop, match="is not a moment"):
-        replays.read_line(1, '{"at": "yesterday", "do": "x"}')
+    for text in ('{"at": "yesterday", "do": "x"}', '{"at": "2026-01-01", "again": "yesterday", "do": "x"}'):
+        with pytest.raises(Stop, match="^Line 7: 'yesterday' is not a moment"):
+            replays.read_line(7, text)
 
 
 def test_lines_keep_their_numbers_past_empty_ones_and_refused_ones(tmp_path):
