@@ -122,6 +122,11 @@ class Desk:
         self.tell(f"user {user}", row, status, answer)
         raise Stop(self.status(), "Nothing was done.")
 
+    def is_own(self, user: str) -> bool:
+        """Whether the token is of this user. It asks to give the user this token, which somebody has already."""
+        row = {"do": "set_token", "user": user, "token_sha256": sha256(self.token())}
+        return self.post(f"user {user}", row, is_kept=False)[1] == "already"
+
     def caller(self) -> str:
         """Whether the token is of the office, of another user, or of nobody; unknown if the address leads to several
         indexes.

@@ -4,7 +4,7 @@ from __future__ import annotations
 import argparse
 import secrets
 from dataclasses import dataclass
-from typing import List, Optional, Tuple
+from typing import List, Optional, Sequence, Tuple
 
 from indexctl.changes import Desk, Row
 from indexctl.command_line import argument, command
@@ -72,11 +72,19 @@ def user_rotate(args: argparse.Namespace) -> int:
     return desk.status()
 
 
+def check_not_own(desk: Desk, users: Sequence[str]) -> None:
+    """Stops if one of the users is who asks: nobody could take back what ends the last token of the office."""
+    for user in filter(desk.is_own, users):
+        raise Stop(WRONG, f"You ask as {user}. Let another user of the office do this, or use `indexctl user rotate "
+                          f"{user}` for another token. Nothing was done.")
+
+
 @command("user lock", "gives users a token that nobody knows (office)", USERS)
 def user_lock(args: argparse.Namespace) -> int:
     """The user stays, and owns what it owns. `user rotate` opens it again."""
     check_users(*args.users)
     desk = Desk(args)
+    check_not_own(desk, args.users)
     for user in args.users:
         row = {"do": "set_token", "user": user, "token_sha256": sha256(secrets.token_hex(32))}
         desk.change(f"user {user}: lock", row)
@@ -97,6 +105,7 @@ def user_leave(args: argparse.Namespace) -> int:
     for user in (args.user, args.to):
         if user and not desk.is_user(user):
             raise Stop(REFUSED, f"There is no user {user}. Is the id spelled right? Nothing was done.")
+    check_not_own(desk, [args.user])
     leaving = find_leaving(desk, args.user)
     alone = [it.name for it in leaving.owned if len(it.owners) == 1]
     if alone and not args.to:

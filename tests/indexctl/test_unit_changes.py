@@ -153,6 +153,15 @@ def test_a_file_is_deleted_by_its_path(desk):
     assert (sent.pieces, sent.length, dict(sent.headers)["X-Index-Name"]) == (None, 0, "a-b")
 
 
+@pytest.mark.parametrize("found, is_own", [(answer(answer="already"), True), *(
+    (answer(409, "refused", name=it), False) for it in ("TokenTaken", "NoUser", "NotOffice"))])
+def test_whose_token_it_is_is_asked_by_what_can_t_change_anything(desk, tmp_path, found, is_own):
+    one = desk(found, record=str(tmp_path / "r"))
+    assert one.is_own("bob") == is_own and not (tmp_path / "r").exists()
+    asked = json.loads(b"".join(one.index.asked[0].pieces()))
+    assert asked == {"do": "set_token", "user": "bob", "token_sha256": sha256("office")}
+
+
 @pytest.mark.parametrize("name, is_user", [("UserExists", True), ("TokenTaken", False)])
 def test_whether_there_is_a_user_is_asked_by_what_can_t_be_accepted(desk, tmp_path, name, is_user):
     one = desk(answer(409, "refused", name=name), record=str(tmp_path / "none" / "r"))

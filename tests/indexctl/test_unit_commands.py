@@ -129,6 +129,15 @@ def test_a_locked_user_has_a_token_that_nobody_knows(run, capsys):
     assert len({row["token_sha256"] for row in rows}) == 2 and capsys.readouterr().out == ""
 
 
+@pytest.mark.parametrize("words", [("lock", "eve", "ann"), ("leave", "ann", "--to", "bob")], ids=lambda it: it[0])
+def test_nobody_locks_out_the_user_who_asks(run, words):
+    """The office's last token would be one that nobody knows, and only a restore helps then."""
+    run.desk.user = "ann"
+    with pytest.raises(Stop, match="^You ask as ann.*`indexctl user rotate ann`.*Nothing was done.$") as end:
+        run("user", *words)
+    assert end.value.status == WRONG and run.desk.asked == []
+
+
 def leaves(run):
     run.names = [held("alone"), held("shared", owners=["ann", "bob"], case=case_of()), held("other", owners=["bob"])]
 

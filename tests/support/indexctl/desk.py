@@ -19,7 +19,7 @@ class FakeDesk:
     """Keeps what was asked for, and says of each whether it is so now."""
 
     def __init__(self, refuses=(), users=("ann", "bob"), caller="office"):
-        self.asked, self.refuses, self.users, self.refused = [], refuses, users, 0
+        self.asked, self.refuses, self.users, self.refused, self.user = [], refuses, users, 0, "me"
         self.index, self.setting, self.is_caller = self, SETTING, caller
 
     def change(self, what, row, token=None, more=None):
@@ -33,6 +33,9 @@ class FakeDesk:
 
     def is_user(self, user):
         return user in self.users
+
+    def is_own(self, user):
+        return user == self.user
 
     def token(self):
         return "office"
