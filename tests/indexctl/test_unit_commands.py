@@ -12,6 +12,7 @@ from indexctl.standings import Standing
 from indexctl.names import sha256
 from indexctl.uploads import MOST_TEXT
 from support.indexctl.rows import case_of, held
+from support.unit import raises
 
 ASKED = {
     ("name", "claim", "A", "b"): [{"do": "claim", "name": "A"}, {"do": "claim", "name": "b"}],
@@ -136,6 +137,15 @@ def test_nobody_locks_out_the_user_who_asks(run, words):
     with pytest.raises(Stop, match="^You ask as ann.*`indexctl user rotate ann`.*Nothing was done.$") as end:
         run("user", *words)
     assert end.value.status == WRONG and run.desk.asked == []
+
+
+@pytest.mark.parametrize("end", [OSError(28, "No space left on device"), BrokenPipeError()])
+def test_a_leave_whose_output_can_t_be_printed_says_to_run_it_again(run, monkeypatch, capsys, end):
+    leaves(run)
+    monkeypatch.setattr(run.desk, "change", raises(end))
+    with pytest.raises(OSError):
+        run("user", "leave", "ann", "--to", "bob")
+    assert capsys.readouterr().err == "ann may own names still. Run it again, to the end.\n"
 
 
 def leaves(run):
