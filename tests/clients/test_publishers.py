@@ -153,6 +153,18 @@ def test_twine_is_refused_other_bytes(twine_user):
 
 
 @pytest.mark.follows("Settings of twine and flit", client="twine")
+def test_twine_that_skips_what_exists_ends_well_though_other_bytes_were_refused(twine_user):
+    wheel = wheel_name("eggs", "2.8")
+    make_dist(twine_user, "2.8")
+    twine_user.succeeds(twine_user.run([*TWINE, f"dist/{wheel}"]))
+    make_dist(twine_user, "2.8", "# other bytes\n")
+    twine_user.succeeds(twine_user.run([*TWINE, "--skip-existing", f"dist/{wheel}"]), f"Skipping {wheel}")
+    with open(f"{twine_user.project}/dist/{wheel}", "rb") as kept:
+        found = twine_user.gate.ask("GET", f"/files/eggs/{wheel}")[2]
+        twine_user.looks(found != kept.read(), wheel, "the other bytes", "the first ones")
+
+
+@pytest.mark.follows("Settings of twine and flit", client="twine")
 def test_twine_is_refused_a_zip_archive(twine_user):
     os.mkdir(f"{twine_user.project}/dist")
     with zipfile.ZipFile(f"{twine_user.project}/dist/eggs-2.2.zip", "w") as archive:
