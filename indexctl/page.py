@@ -177,7 +177,7 @@ def owner_part(found: Overview) -> Iterator[str]:
 def page_of(url: str, found: Overview, cases: Sequence[CaseRow], now: int) -> Iterator[str]:
     """The page of the office, in pieces: one HTML file that asks for nothing else."""
     ready = sum(it.ready for it in cases)
-    tiles = ((found.held, "held names"), (len(cases), "open cases"), (ready, "ready for a transfer"),
+    tiles = ((len(found.owners), "held names"), (len(cases), "open cases"), (ready, "ready for a transfer"),
              (found.full, f"quotas at {HIGH} % or above"), (found.alone, "names with one owner"))
     # as they stand between their tags: the digest is of all that stands there
     style, script = (f"\n{part_of_page(name)}" for name in ("page.css", "page.js"))

@@ -53,11 +53,6 @@ class Overview:
     quotas: List[QuotaRow] = field(default_factory=list)
     owned: Dict[str, List[OwnedName]] = field(default_factory=dict)
 
-    @property
-    def held(self) -> int:
-        """How many names are held."""
-        return len(self.owners)
-
     def look_at(self, names: Iterable[Standing]) -> Iterator[Standing]:
         """Takes in each name as it comes, and gives those with an open case. No other is kept whole."""
         # each group of owners once, however many names it has

@@ -65,6 +65,5 @@ def read_moment(text: str, place: str = "") -> int:
         else:
             found = datetime.datetime.fromisoformat(re.sub("Z$", "+00:00", text))
     except ValueError as end:
-        raise Stop(WRONG, f"{place}{text!r} is not a moment. Write 2026-11-24T03:15:00Z, or the name of the "
-                          "backup.") from end
+        raise Stop(WRONG, f"{place}{text!r} is not a moment. Write 2026-11-24T03:15:00Z, or a backup's name.") from end
     return int((found if found.tzinfo else found.replace(tzinfo=datetime.timezone.utc)).timestamp())

@@ -88,7 +88,7 @@ def page(args: argparse.Namespace) -> None:
     cases, _ = open_cases(desk, found.look_at(held_names(desk.index)), now)
     path = os.path.join(args.folder, "index.html")
     put_whole(path, page_of(desk.setting.url, found, cases, now))
-    say(f"{path}: {counted(found.held, 'name')}, {counted(len(cases), 'open case')}")
+    say(f"{path}: {counted(len(found.owners), 'name')}, {counted(len(cases), 'open case')}")
 
 
 @command("replay", "asks again for the changes of a record, after a restore",

@@ -55,7 +55,7 @@ def test_a_page_keeps_what_somebody_has_to_look_at():
              held("c", owners=["bob"]), held("d", owners=["ann", "bob"], case=case_of())]
     found = quotas.Overview()
     assert [it.name for it in found.look_at(names)] == ["d"]
-    assert (found.held, found.full, found.alone) == (4, 1, 2)
+    assert (len(found.owners), found.full, found.alone) == (4, 1, 2)
     assert [it.name for it in found.quotas] == ["b"]
     assert {user: [it.name for it in owned] for user, owned in found.owned.items()} == {"ann": ["b"], "bob": ["c"]}
 
@@ -63,7 +63,7 @@ def test_a_page_keeps_what_somebody_has_to_look_at():
 def test_a_page_of_all_keeps_all():
     names = [held("a", owners=["ann", "bob"]), held("b", charge=80, quota=100)]
     found = overview_of(*names)
-    assert (found.held, found.full, found.alone, [it.name for it in found.quotas]) == (2, 1, 1, ["a", "b"])
+    assert (len(found.owners), found.full, found.alone, [it.name for it in found.quotas]) == (2, 1, 1, ["a", "b"])
     assert {user: [it.name for it in owned] for user, owned in found.owned.items()} == {"ann": ["a", "b"],
                                                                                         "bob": ["a"]}
 
