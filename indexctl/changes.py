@@ -8,7 +8,7 @@ from dataclasses import replace
 from types import MappingProxyType
 from typing import Callable, Mapping, Optional, Tuple
 
-from indexctl.ends import REFUSED, WRONG, Stop
+from indexctl.ends import REFUSED, UNREACHED, WRONG, Stop
 from indexctl.names import project_of, sha256
 from indexctl.record import Record
 from indexctl.refusals import hint_of
@@ -76,6 +76,10 @@ class Desk:
                 keep()
         if reply.status in (200, 201) and answer in ("accepted", "already"):
             return reply.status, str(answer)
+        if is_kept and reply.is_repeat and found.get("name") in ("BadToken", "NotOwner"):
+            # who took another token, or left the owners, by the first has no right to the second
+            raise Stop(UNREACHED, f"{what}: the first try had no reply, and may have been done. The second was refused "
+                                  f"as {found['name']}. Look at what is so before you repeat it.")
         if answer in ("refused", "message", "fault") and isinstance(found.get("name"), str):
             return reply.status, str(found["name"])
         raise foreign(what, reply)

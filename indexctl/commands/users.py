@@ -27,13 +27,15 @@ def digest_of(args: argparse.Namespace) -> Tuple[str, Optional[str]]:
 
 
 def give_token(desk: Desk, what: str, row: Row, token: Optional[str]) -> None:
-    """Asks for a change that makes a token known, and prints a token that was made here, once."""
+    """Asks for a change that makes a token known, and prints one that was made here, once, if it may be so now."""
+    shown = f"{row['user']}'s token, which is shown this once: {token}"
     try:
         if desk.change(what, row) and token:
-            put(f"{row['user']}'s token, which is shown this once: {token}")
+            put(shown)
     except Stop as end:
-        lost = f" If it was done, its token is lost: use `indexctl user rotate {row['user']}`." if token else ""
-        raise Stop(end.status, f"{end}{lost if end.status == UNREACHED else ''}") from end
+        if token and end.status == UNREACHED:
+            put(f"If it was done: {shown}")
+        raise
     except OSError:
         # as if what reads the output is gone, or the disk of its file is full
         if token:

@@ -5,7 +5,7 @@ import json
 import re
 
 import pytest
-from support.indexctl.control import Control, assert_ends
+from support.indexctl.control import Control, assert_ends, digest
 from support.indexctl.scripted import CASE, HTML, STANDING, always, as_json, list_of, scripted, standing_of
 from support.places import TOP
 from support.serving import free_port
@@ -33,6 +33,16 @@ def test_what_is_no_answer_of_an_index_is_told_as_what_it_is(folder, what):
     answer, words, status, *said = FOREIGN[what]
     with scripted(answer) as server:
         assert_ends(Control(folder, server.url).run(*words, "--again", "1"), status, *said)
+
+
+def test_who_takes_another_token_has_it_though_the_reply_was_lost(folder):
+    """The second try is asked for by the token before, which has ended."""
+    replies = [None, as_json({"answer": "refused", "code": 3, "name": "BadToken"}, 401)]
+    with scripted(lambda *_: replies.pop(0)) as server:
+        ended = Control(folder, server.url).run("user", "rotate", "office")
+        assert_ends(ended, 3, "the first try had no reply, and may have been done", "If it was done: office's token")
+        token, = re.findall("[0-9a-f]{64}", ended.stdout)
+        assert [json.loads(body)["token_sha256"] for _, _, body, _ in server.asked] == 2 * [digest(token)]
 
 
 def test_a_case_of_no_year_is_no_answer(folder):

@@ -114,6 +114,21 @@ def test_what_is_no_answer_is_told(desk, found):
     assert end.value.status == UNREACHED
 
 
+@pytest.mark.parametrize("is_repeat", [True, False])
+@pytest.mark.parametrize("status, name", [(401, "BadToken"), (403, "NotOwner")])
+def test_a_right_that_a_first_try_may_have_ended_is_told_as_that(desk, tmp_path, status, name, is_repeat):
+    """Of who took another token, or left the owners, and had no reply: it is no refusal, and not to be recorded."""
+    one = desk(replace(answer(status, "refused", name=name), is_repeat=is_repeat), record=str(tmp_path / "r"))
+    row = {"do": "remove_owner", "name": "a", "user": "ann"}
+    if is_repeat:
+        with pytest.raises(Stop, match=f"^x: the first try had no reply, and may have been done.*{name}") as end:
+            one.post("x", row)
+        assert end.value.status == UNREACHED
+    else:
+        assert one.post("x", row) == (status, name)
+    assert (tmp_path / "r").read_text() == ""
+
+
 def test_ctrl_c_in_a_change_says_that_it_may_have_been_done(desk, tmp_path, capsys, monkeypatch):
     one = desk(record=str(tmp_path / "r"))
 
@@ -151,6 +166,11 @@ def test_a_file_is_deleted_by_its_path(desk):
     sent = one.index.asked[0]
     assert (sent.method, sent.path) == ("DELETE", "/files/a-b/A_b-1.0%2Bx.tar.gz")
     assert (sent.pieces, sent.length, dict(sent.headers)["X-Index-Name"]) == (None, 0, "a-b")
+
+
+def test_a_look_at_the_token_is_told_as_what_it_is_at_any_try(desk):
+    """It changes nothing, so a first try without a reply has not done so either."""
+    assert desk(replace(answer(401, "refused", name="BadToken"), is_repeat=True)).caller() == "nobody"
 
 
 @pytest.mark.parametrize("found, is_own", [(answer(answer="already"), True), *(

@@ -2,6 +2,7 @@
 from __future__ import annotations
 
 import io
+import re
 import signal
 import sys
 
@@ -100,15 +101,22 @@ def test_a_token_is_printed_before_the_next_user_is_asked_for(run, monkeypatch):
     assert run("user", "add", "eve", "bob") == 0 and printed == [0, 1]
 
 
-@pytest.mark.parametrize("status, said", [(UNREACHED, True), (REFUSED, False)])
-def test_a_token_that_may_be_lost_is_told(run, monkeypatch, status, said):
-    def fail(*_):
-        raise Stop(status, "No reply.")
-    run.desk.change = fail
-    with pytest.raises(Stop, match="^No reply.") as end:
-        run("user", "add", "eve")
-    assert end.value.status == status
-    assert ("its token is lost: use `indexctl user rotate eve`" in str(end.value)) == said
+@pytest.mark.parametrize("status, is_printed", [(UNREACHED, True), (REFUSED, False), (WRONG, False)])
+def test_a_token_that_the_user_may_have_now_is_printed(run, capsys, status, is_printed):
+    """It stands nowhere else, and the one before may have ended."""
+    run.desk.change = raises(Stop(status, "No reply."))
+    with pytest.raises(Stop, match="^No reply.$") as end:
+        run("user", "rotate", "eve")
+    said = capsys.readouterr().out
+    assert end.value.status == status and bool(said) == is_printed
+    assert not said or re.fullmatch("If it was done: eve's token, which is shown this once: [0-9a-f]{64}\n", said)
+
+
+def test_a_token_that_was_not_made_here_is_not_printed(run, capsys):
+    run.desk.change = raises(Stop(UNREACHED, "No reply."))
+    with pytest.raises(Stop):
+        run("user", "add", "eve", "--digest", "0" * 64)
+    assert capsys.readouterr().out == ""
 
 
 @pytest.mark.parametrize("verb", ["add", "rotate"])
