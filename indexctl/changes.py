@@ -61,7 +61,7 @@ class Desk:
         headers: Headers = (*request.headers, ("X-Index-Token", token))
         # (a record that is replayed may have any text for a name)
         headers += (("X-Index-Name", normal(name)),) if name and name.isascii() and name.isprintable() else ()
-        request = replace(request, headers=headers, is_once=row["do"] in NEVER_ALREADY)
+        request = replace(request, headers=headers, is_once=is_kept and row["do"] in NEVER_ALREADY)
         line: Row = {"at": moment_now(), "caller": sha256(token)[:8], "index": self.setting.url, **more, **row}
         with self.room(line, is_kept) as keep:
             try:

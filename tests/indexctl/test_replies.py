@@ -35,6 +35,21 @@ def test_what_is_no_answer_of_an_index_is_told_as_what_it_is(folder, what):
         assert_ends(Control(folder, server.url).run(*words, "--again", "1"), status, *said)
 
 
+def test_a_look_at_the_year_is_tried_again(folder):
+    """It asks for a transfer that can't be accepted: no service of the office's page ends by a moment without index."""
+    replies = [as_json({"answer": "fault", "name": "Unavailable"}, 503),
+               as_json({"answer": "refused", "code": 34, "name": "RecentRelease"}, 409)]
+
+    def answer(method, path, body, _):
+        if method == "GET":
+            return standing_of(path, case=CASE)
+        return replies.pop(0) if b"transfer" in body else as_json({"answer": "refused", "name": "BadName"}, 400)
+    with scripted(answer) as server:
+        ended = Control(folder, server.url).run("case", "show", "x", "--json")
+        assert_ends(ended, 0, "Again in 0.5 s", '"year": "not over"')
+        assert not replies
+
+
 def test_who_takes_another_token_has_it_though_the_reply_was_lost(folder):
     """The second try is asked for by the token before, which has ended."""
     replies = [None, as_json({"answer": "refused", "code": 3, "name": "BadToken"}, 401)]

@@ -114,6 +114,13 @@ def test_what_is_no_answer_is_told(desk, found):
     assert end.value.status == UNREACHED
 
 
+@pytest.mark.parametrize("do", changes.NEVER_ALREADY)
+def test_what_can_t_be_accepted_may_be_sent_again(desk, do):
+    one = desk(answer(409, "refused", name="TooEarly"))
+    one.post("x", {"do": do, "name": "a"}, is_kept=False)
+    assert not one.index.asked[0].is_once
+
+
 @pytest.mark.parametrize("is_repeat", [True, False])
 @pytest.mark.parametrize("status, name", [(401, "BadToken"), (403, "NotOwner")])
 def test_a_right_that_a_first_try_may_have_ended_is_told_as_that(desk, tmp_path, status, name, is_repeat):
