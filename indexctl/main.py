@@ -4,12 +4,11 @@ from __future__ import annotations
 import io
 import os
 import sys
-from contextlib import suppress
 
 from indexctl.command_line import parsers
 from indexctl.commands import COMMANDS
 from indexctl.ends import INTERRUPTED, PIPE_CLOSED, WRONG, Stop
-from indexctl.terminal import note, put
+from indexctl.terminal import drop, note, put
 
 
 def main() -> int:
@@ -37,9 +36,7 @@ def main() -> int:
             # argparse prints help by itself
             put("", end="")
     except OSError as end:
-        # the interpreter would complain, as it ends, of what can't be printed
-        with suppress(OSError):
-            os.dup2(os.open(os.devnull, os.O_WRONLY), sys.stdout.fileno())
+        drop(sys.stdout)
         if isinstance(end, BrokenPipeError):
             return PIPE_CLOSED
         note(f"indexctl: {end}", "red")

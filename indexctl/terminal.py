@@ -89,9 +89,17 @@ def say(text: str, colour: Optional[str] = None) -> None:
 
 def note(text: str, colour: Optional[str] = None) -> None:
     """Prints a line on standard error. If nobody reads that any more, the run goes on."""
-    with suppress(OSError):
+    try:
         Progress.clear()
         print(paint(printable(text), colour, sys.stderr), file=sys.stderr, flush=True)
+    except OSError:
+        drop(sys.stderr)
+
+
+def drop(stream: TextIO) -> None:
+    """Has what can't be printed go nowhere: the interpreter would try it again as it ends, and complain."""
+    with suppress(OSError), open(os.devnull, "wb") as nowhere:
+        os.dup2(nowhere.fileno(), stream.fileno())
 
 
 def confirm(args: argparse.Namespace, sentence: str) -> None:

@@ -45,12 +45,22 @@ def test_what_was_done_is_told_if_nobody_reads_the_output(folder, unbuffered):
         assert len(server.asked) == 1
 
 
+def test_the_status_is_the_same_if_errors_can_t_be_printed_either(folder):
+    """As by `2>&1 | head`."""
+    read, write = os.pipe()
+    os.close(read)
+    with scripted(ACCEPTED) as server, open(write, "wb") as pipe, open("/dev/full", "wb") as full:
+        for stream, status in ((pipe, 141), (full, 2)):
+            with Control(folder, server.url).start(*CLAIMS, streams={"stdout": stream, "stderr": stream}) as run:
+                assert run.wait(timeout=60) == status
+
+
 def test_notes_that_can_t_be_printed_leave_nothing_undone(folder):
     def answer(method, *_):
         return as_json({"files": []} if method == "GET" else {"answer": "accepted"})
     with scripted(answer) as server, open("/dev/full", "wb") as full:
         words = "file", "delete", "a-1.tar.gz", "b-1.tar.gz"
         with Control(folder, server.url).start(*words, streams={"stderr": full}) as run:
-            said = run.stdout.read()
-    assert said.splitlines() == ["delete a-1.tar.gz: accepted", "index-uncache a a-1.tar.gz",
-                                 "delete b-1.tar.gz: accepted", "index-uncache b b-1.tar.gz"]
+            said, status = run.stdout.read(), run.wait(timeout=60)
+    assert (status, said.splitlines()) == (0, ["delete a-1.tar.gz: accepted", "index-uncache a a-1.tar.gz",
+                                               "delete b-1.tar.gz: accepted", "index-uncache b b-1.tar.gz"])
