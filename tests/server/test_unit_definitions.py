@@ -2,6 +2,7 @@
 from __future__ import annotations
 
 import glob
+import subprocess
 from pathlib import Path
 
 from definitions import Definition, defined_again, definitions, file_sentence
@@ -95,3 +96,12 @@ def test_all_definitions_of_the_crates_are_found():
               if words[:2] in (["abbrev", "pub"], ["unfoldable", "pub"], ["pub", "record"], ["pub", "data"])]
     assert len(wanted) > 1000
     assert sorted(it.word for it in definitions(HERE)) == sorted(wanted)
+
+
+def test_a_list_that_is_cut_off_ends_without_a_word():
+    """As by `tools/list-specs --words | head`."""
+    words = [f"{HERE}/tools/list-specs", "--words"]
+    with subprocess.Popen(words, stdout=subprocess.PIPE, stderr=subprocess.PIPE) as listing:
+        listing.stdout.readline()
+        listing.stdout.close()
+        assert listing.stderr.read() == b"" and listing.wait(timeout=60) < 0
