@@ -1,0 +1,145 @@
+"""What tools/package and tools/release leave behind if they fail or are interrupted, and what they take from whom calls
+them. They run in a small repository in which debhelper and a proof are a few lines."""
+from __future__ import annotations
+
+import os
+import signal
+import subprocess
+import sys
+from collections.abc import Iterator
+from contextlib import contextmanager
+from pathlib import Path
+from subprocess import CompletedProcess
+
+import pytest
+from support.needed import want_command
+from support.running import run_command
+from support.server.released import TAG, VERSION, Repository
+from support.server.waits import wait_for
+
+NAME = f"package-index_{VERSION}_amd64.deb"
+RULES = r"""#!/usr/bin/make -f
+%:
+	true
+binary:
+	env > '{folder}/environment'
+	. '{folder}/acts'
+	name=package-index_$$(dpkg-parsechangelog -S Version)_amd64.deb && head -c 100000 /dev/zero > ../$$name && \
+	echo "$$name net optional" > debian/files
+"""
+BUILD = r"""#!/bin/sh
+. '{folder}/proves'
+cd "$(dirname "$0")/.." && mkdir -p crates/index/out
+version=$(sed -n 's/^const VERSION: &str = "\(.*\)";$/\1/p' crates/index_args/src/command.rt)
+printf '#!/bin/sh\necho "index %s"\n' "$version" > crates/index/out/index
+chmod 755 crates/index/out/index
+"""
+# goes on until it is ended
+WAITS = "sleep 60 & echo $! > '{folder}/waits.new'; mv '{folder}/waits.new' '{folder}/waits'; wait"
+# a small disk with a package of before; what is there at the end is printed last
+DISK = """mount -t tmpfs -o size=64k none "$1" && echo before > "$1/$2" || exit 3
+folder=$1 name=$2; shift 2; "$@"; echo "status $?"; ls -A "$folder"; cat "$folder/$name" """
+
+
+class Tried(Repository):
+    """A repository whose path has a blank, with a program that is built."""
+
+    def __init__(self, folder: Path) -> None:
+        super().__init__(f"{folder}/a clone")
+        self.folder, self.out, self.program = folder, f"{folder}/out", f"{folder}/index"
+        for name in ("acts", "proves"):
+            self.does(name, "true")
+        for path, text in (("server/debian/rules", RULES), ("tools/build", BUILD)):
+            self.put(path, text.replace("{folder}", str(folder)))
+            os.chmod(f"{self.top}/{path}", 0o755)
+        Path(self.program).write_text("#!/bin/sh\necho 'index 1 (a kit)'\n")
+        os.chmod(self.program, 0o755)
+        (folder / "tmp").mkdir()
+        self.committed()
+
+    def does(self, name: str, text: str) -> None:
+        (self.folder / name).write_text(text.format(folder=self.folder) + "\n")
+
+    def words(self, tool: str) -> list[str]:
+        of_it = {"package": ["--program", self.program, "--version", VERSION], "release": [VERSION]}
+        return [sys.executable, f"{self.top}/tools/{tool}", *of_it[tool], "--out", self.out]
+
+    def setting(self) -> dict[str, str]:
+        return {"TMPDIR": f"{self.folder}/tmp"}
+
+    def ended(self, *words: str, **more: str) -> CompletedProcess:
+        return run_command(words, **{**self.setting(), **more})
+
+    @contextmanager
+    def waiting(self, *words: str) -> Iterator[subprocess.Popen]:
+        """A command in whose midst something waits."""
+        with subprocess.Popen(words, env={**os.environ, **self.setting()}, stdout=subprocess.PIPE, text=True,
+                              stderr=subprocess.STDOUT, start_new_session=True) as command:
+            try:
+                assert wait_for((self.folder / "waits").exists, 60)
+                yield command
+            finally:
+                command.kill()
+
+    def is_waiting(self) -> bool:
+        """Whether that goes on. One that has ended may stay in the table, without words."""
+        try:
+            return bool(Path(f"/proc/{(self.folder / 'waits').read_text().strip()}/cmdline").read_bytes())
+        except OSError:
+            return False
+
+    def left(self) -> list[str]:
+        return os.listdir(f"{self.folder}/tmp")
+
+
+@pytest.fixture
+def tried(tmp_path: Path) -> Tried:
+    for command, package in (("dh", "debhelper"), ("dpkg-buildpackage", "dpkg-dev"), ("help2man", "help2man"),
+                             ("make", "make"), ("strip", "binutils"), ("git", "git")):
+        want_command(command, package)
+    return Tried(tmp_path)
+
+
+
+def test_a_disk_that_is_full_leaves_the_package_of_before(tried):
+    os.mkdir(tried.out)
+    ended = tried.ended("unshare", "--mount", "--propagation", "private", "sh", "-c", DISK, "sh", tried.out, NAME,
+                        *tried.words("package"))
+    if ended.returncode == 3 or "unshare" in ended.stdout:
+        pytest.skip("this machine lets nobody mount a file system")
+    said, *seen = ended.stdout.splitlines()
+    assert said.startswith(f"package: {tried.out} gets no package: [Errno 28] No space left on device")
+    assert seen == ["status 1", NAME, "before"] and tried.left() == []
+
+
+@pytest.mark.parametrize("tool, place", [("package", "acts"), ("release", "proves")])
+@pytest.mark.parametrize("name", ["INT", "TERM", "HUP"])
+def test_what_is_interrupted_ends_with_all_that_it_started_and_leaves_nothing(tried, tool, place, name):
+    tried.does(place, WAITS)
+    number = signal.Signals[f"SIG{name}"]
+    with tried.waiting(*tried.words(tool)) as command:
+        command.send_signal(number)
+        said, _ = command.communicate(timeout=60)
+    assert (command.returncode, said) == (128 + number, "") and wait_for(lambda: not tried.is_waiting(), 10)
+    assert tried.left() == [] and not (os.path.exists(tried.out) and os.listdir(tried.out))
+
+
+def test_what_nohup_began_goes_on_after_a_hang_up(tried):
+    tried.does("acts", WAITS.replace("60", "1"))
+    with tried.waiting("nohup", *tried.words("package")) as command:
+        command.send_signal(signal.SIGHUP)
+        said, _ = command.communicate(timeout=60)
+    assert command.returncode == 0 and said.endswith(f"{tried.out}/{NAME}\n")
+
+
+
+def test_a_release_that_a_full_disk_cuts_off_is_not_there(tried):
+    tried.out = f"{tried.folder}/disk/release"
+    os.mkdir(f"{tried.folder}/disk")
+    ended = tried.ended("unshare", "--mount", "--propagation", "private", "sh", "-c", DISK, "sh",
+                        f"{tried.folder}/disk", "before", *tried.words("release"))
+    if ended.returncode == 3 or "unshare" in ended.stdout:
+        pytest.skip("this machine lets nobody mount a file system")
+    said, *seen = ended.stdout.splitlines()
+    assert said.startswith("release: [Errno 28] No space left on device") and tried.left() == []
+    assert seen == ["status 1", "before", "before"]

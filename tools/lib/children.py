@@ -1,0 +1,37 @@
+"""Commands that end with the one that started them, and the signals that end a command of tools/."""
+import os
+import shutil
+import signal
+import subprocess
+import sys
+
+
+def ends():
+    """The signals that end a command, but for those that it has to ignore, as by nohup."""
+    return [it for it in (signal.SIGINT, signal.SIGTERM, signal.SIGHUP) if signal.getsignal(it) is not signal.SIG_IGN]
+
+
+def leave_at_signals():
+    """Has the first signal end this process by way of its blocks, so that what it started ends, and its folders go."""
+    def leave(number, _):
+        for it in ends():
+            signal.signal(it, signal.SIG_IGN)
+        sys.exit(128 + number)
+    for it in ends():
+        signal.signal(it, leave)
+
+
+def run(words, **more):
+    """How a command ended. All that it started ends if this process does."""
+    with subprocess.Popen(words, stdin=subprocess.DEVNULL, text=True, start_new_session=True, **more) as child:
+        try:
+            said, _ = child.communicate()
+        except BaseException:
+            os.killpg(child.pid, signal.SIGTERM)
+            raise
+    return subprocess.CompletedProcess(words, child.returncode, said)
+
+
+def why(end):
+    """What was wrong with a file, in one sentence: a folder that is copied tells of each of its files."""
+    return end.args[0][0][2] if isinstance(end, shutil.Error) else str(end)
