@@ -54,7 +54,8 @@ def life(package: str, package_folder: str, certificate: str) -> Iterator[Life]:
 
 
 def test_a_package_made_again_is_the_same(program, package, package_folder):
-    ended = make_package(program, f"{package_folder}/again", "--unproved", TZ="Asia/Tokyo", HOME=package_folder)
+    yours = {"TZ": "Asia/Tokyo", "HOME": package_folder, "COLUMNS": "40", "DEB_BUILD_OPTIONS": "nostrip"}
+    ended = make_package(program, f"{package_folder}/again", "--unproved", **yours)
     assert_ends(ended, 0)
     digests = []
     for path in (package, ended.stdout.splitlines()[-1]):

@@ -100,6 +100,12 @@ def tried(tmp_path: Path) -> Tried:
     return Tried(tmp_path)
 
 
+def test_no_setting_of_yours_reaches_a_package(tried):
+    ended = tried.ended(*tried.words("package"), COLUMNS="40", DEB_BUILD_OPTIONS="nostrip", MAKEFLAGS="-n")
+    assert (ended.returncode, ended.stdout) == (0, f"{tried.out}/{NAME}\n")
+    seen = (tried.folder / "environment").read_text()
+    assert "SOURCE_DATE_EPOCH=" in seen and "COLUMNS" not in seen and "nostrip" not in seen
+
 
 def test_a_disk_that_is_full_leaves_the_package_of_before(tried):
     os.mkdir(tried.out)
