@@ -3,6 +3,7 @@ them. They run in a small repository in which debhelper and a proof are a few li
 from __future__ import annotations
 
 import os
+import shlex
 import signal
 import subprocess
 import sys
@@ -137,6 +138,13 @@ def test_what_nohup_began_goes_on_after_a_hang_up(tried):
         said, _ = command.communicate(timeout=60)
     assert command.returncode == 0 and said.endswith(f"{tried.out}/{NAME}\n")
 
+
+def test_the_command_of_a_tag_can_be_pasted_if_a_path_has_a_blank(tried):
+    tried.out = f"{tried.folder}/a release"
+    ended = tried.ended(*tried.words("release"))
+    assert ended.returncode == 0 and os.listdir(tried.out)
+    tried.git(*shlex.split(ended.stdout.splitlines()[-1])[1:])
+    assert tried.git("tag", "--list") == TAG
 
 
 def test_a_release_that_a_full_disk_cuts_off_is_not_there(tried):
