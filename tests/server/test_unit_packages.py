@@ -157,3 +157,9 @@ def test_a_release_that_a_full_disk_cuts_off_is_not_there(tried):
     said, *seen = ended.stdout.splitlines()
     assert said.startswith("release: [Errno 28] No space left on device") and tried.left() == []
     assert seen == ["status 1", "before", "before"]
+
+
+def test_a_tree_without_git_has_no_commit_of_the_repository_around_it(tried):
+    os.rename(f"{tried.top}/.git", f"{tried.folder}/.git")
+    ended = tried.ended(*tried.words("package")[:4], "--out", tried.out)
+    assert ended.returncode == 0 and ended.stdout.endswith(".unknown_amd64.deb\n"), ended.stdout
