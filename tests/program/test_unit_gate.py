@@ -3,6 +3,7 @@ long run in one process, so that it is made once."""
 from __future__ import annotations
 
 import glob
+import os
 import re
 import signal
 import subprocess
@@ -79,6 +80,33 @@ def test_a_gate_that_is_interrupted_twice_ends_and_begins_nothing_more(comes: st
     lines = said.splitlines()
     assert lines[-1] == "interrupted: nothing is left running" and run.returncode in (128 + 15, 128 + 2)
     assert "begun two" not in lines and "100000" in lines
+
+
+# what tools/build and tools/try-edits do with a signal
+TOOL = """
+import signal, lanes
+lanes.end_at_signals(lambda: "ended")
+print("begun one", flush=True)
+while True:
+    signal.pause()
+"""
+
+
+@pytest.mark.parametrize("words", [("-W", "ignore", "-c", GATE, "at once"), ("-c", TOOL)])
+def test_what_nohup_began_is_not_ended_by_a_hang_up(words):
+    words = ["nohup", sys.executable, "-B", *words]
+    with subprocess.Popen(words, stdin=subprocess.DEVNULL, stdout=subprocess.PIPE, stderr=subprocess.STDOUT, text=True,
+                          env={**os.environ, "PYTHONPATH": f"{TOP}/tools/lib"}, start_new_session=True) as run:
+        try:
+            assert run.stdout.readline() == "begun one\n"
+            with open(f"/proc/{run.pid}/status", encoding="utf-8") as status:
+                ignored = int(re.search(r"^SigIgn:\s*(\w+)$", status.read(), re.M)[1], 16)
+            assert ignored & 1 << signal.SIGHUP - 1
+            run.send_signal(signal.SIGTERM)
+            run.communicate(timeout=60)
+        finally:
+            run.kill()
+    assert run.returncode == 128 + 15
 
 
 PASSES, FAILS = "echo 1 passed, 0 failed", "echo 'FAILED t.py::test_a[x y] - bad'; echo 0 passed, 1 failed; exit 1"

@@ -12,6 +12,7 @@ import tempfile
 import threading
 import time
 
+from children import ends
 from top import TOP
 from trial import whole_number
 
@@ -114,7 +115,7 @@ def end_at_signals(ending):
         sys.stdout.flush()
         os.write(2, f"{ending()}\n".encode())
         os._exit(128 + number)
-    for it in (signal.SIGINT, signal.SIGTERM, signal.SIGHUP):
+    for it in ends():
         signal.signal(it, end)
 
 
