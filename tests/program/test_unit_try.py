@@ -1,0 +1,52 @@
+"""What tools/try ends if it is ended, and the lines that it prints last. A script stands for the program."""
+from __future__ import annotations
+
+import shutil
+import signal
+import subprocess
+import sys
+from pathlib import Path
+
+import pytest
+from support.places import TOP
+from support.server.waits import wait_for
+
+# it serves nobody, so a client goes on to ask
+PROGRAM = """#!/bin/sh
+[ "$1" = serve ] || exit 0
+echo $$ > '{folder}/serves'
+echo listening on 127.0.0.1:1
+exec sleep 60
+"""
+
+
+@pytest.fixture
+def clone(tmp_path: Path) -> Path:
+    """A clone with a program that is built, in a path with a blank."""
+    made = tmp_path / "a clone"
+    for room in ("tools", "tests/support", "indexctl", "server/lib"):
+        shutil.copytree(f"{TOP}/{room}", made / room, ignore=shutil.ignore_patterns("__pycache__"))
+    program = made / "crates/index/out/index"
+    program.parent.mkdir(parents=True)
+    program.write_text(PROGRAM.format(folder=tmp_path))
+    program.chmod(0o755)
+    return made
+
+
+def goes_on(pid: str) -> bool:
+    """Whether a process does. One that has ended may stay in the table, without words."""
+    try:
+        return bool(Path(f"/proc/{pid.strip()}/cmdline").read_bytes())
+    except OSError:
+        return False
+
+
+@pytest.mark.parametrize("name", ["INT", "TERM", "HUP"])
+def test_a_trial_that_is_ended_serves_no_longer(clone, name):
+    words, serves = [sys.executable, f"{clone}/tools/try"], clone.parent / "serves"
+    with subprocess.Popen(words, stdout=subprocess.PIPE, stderr=subprocess.PIPE, text=True) as command:
+        assert wait_for(lambda: serves.exists() and serves.read_text(), 60)
+        command.send_signal(signal.Signals[f"SIG{name}"])
+        _, wrong = command.communicate(timeout=60)
+    assert wait_for(lambda: not goes_on(serves.read_text()), 10)
+    assert command.returncode == 130 and wrong.strip().startswith("interrupted: what is built is kept")
