@@ -1,6 +1,9 @@
 """What tools/try ends if it is ended, and the lines that it prints last. A script stands for the program."""
 from __future__ import annotations
 
+import os
+import runpy
+import shlex
 import shutil
 import signal
 import subprocess
@@ -50,3 +53,17 @@ def test_a_trial_that_is_ended_serves_no_longer(clone, name):
         _, wrong = command.communicate(timeout=60)
     assert wait_for(lambda: not goes_on(serves.read_text()), 10)
     assert command.returncode == 130 and wrong.strip().startswith("interrupted: what is built is kept")
+
+
+def test_the_last_lines_hold_in_the_folder_where_the_trial_was_called(monkeypatch, tmp_path):
+    monkeypatch.chdir(tmp_path)
+    monkeypatch.setattr(sys, "path", [*sys.path])
+    trial, folder = runpy.run_path(f"{TOP}/tools/try"), tmp_path / "a trial"
+    lines = trial["next_lines"](trial["PROVED"], folder).splitlines()[1:]
+    serve, claim, upload, install = [shlex.split(it) for it in lines]
+    assert Path(serve[0]).resolve() == trial["PROVED"] and Path(serve[3]).resolve() == folder / "index.db"
+    for line in (claim, upload):
+        assert Path(line[1].partition("=")[2]).resolve() == folder / "ann.token"
+        assert line[2] == "python3" and os.path.samefile(line[3], f"{TOP}/indexctl")
+    assert Path(upload[-1]).resolve() == folder / trial["NEXT"]
+    assert Path(install[-2]).resolve() == folder / "installed"
