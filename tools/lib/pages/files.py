@@ -1,8 +1,6 @@
 """The texts of the repository that pages are made of and held to."""
-import os
-
 import texts
-from top import TOP
+from top import TOP, files_below
 
 
 def read(path):
@@ -15,8 +13,4 @@ def write(path, text):
 
 def pages():
     """The paths of all pages of the repository, from its top."""
-    found = []
-    for folder, inner, files in os.walk(TOP):
-        inner[:] = sorted(name for name in inner if name not in ("out", ".git", "try"))
-        found += [os.path.relpath(f"{folder}/{name}", TOP) for name in sorted(files) if name.endswith(".md")]
-    return found
+    return [it for it in files_below("") if it.endswith(".md")]

@@ -4,7 +4,7 @@ import re
 
 from pages.files import pages, read
 from pages.links import FENCED
-from top import TOP
+from top import TOP, files_below
 
 PAGES = re.compile(r"docs/(?:proofs|developers)/|crates/\w+/README\.md$")
 ROOMS = ("crates", "tests", "server", "tools", "indexctl", "bench")
@@ -16,14 +16,11 @@ NAME = re.compile(r"\w_\w|::|[a-z][A-Z]|\.(?:rt|antt|py)$")
 def sources():
     """The words of the sources, and the names of their files and folders."""
     found = set()
-    for room in ROOMS:
-        for folder, inner, files in os.walk(f"{TOP}/{room}"):
-            inner[:] = [name for name in inner if name not in ("out", "try", "__pycache__")]
-            found.update(inner, files, (os.path.splitext(file)[0] for file in files))
-            for file in files:
-                if not file.endswith((".md", ".png", ".svg", ".pyc")):
-                    with open(f"{folder}/{file}", encoding="utf-8", errors="replace") as text:
-                        found.update(re.findall(r"[\w-]+", text.read()))
+    for path in (it for room in ROOMS for it in files_below(room)):
+        found.update(path.split("/"), [os.path.splitext(os.path.basename(path))[0]])
+        if not path.endswith((".md", ".png", ".svg", ".pyc")):
+            with open(f"{TOP}/{path}", encoding="utf-8", errors="replace") as text:
+                found.update(re.findall(r"[\w-]+", text.read()))
     return found
 
 
