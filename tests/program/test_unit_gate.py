@@ -10,7 +10,7 @@ import subprocess
 import sys
 
 import pytest
-from support.durations import name_of
+from support.durations import name_of, write
 from support.inner_runs import run_tests
 from support.places import TOP
 from support.programs import program_of
@@ -43,6 +43,20 @@ def test_tests_of_a_group_go_to_one_worker():
 @pytest.mark.parametrize("name", ["test_a.py::test_b", "test_a.py::test_b[c@d]", "test_a.py::test_b[c-d@e.f]"])
 def test_how_long_a_test_took_is_kept_by_its_name_alone(name):
     assert name_of(f"{name}@group") == name_of(name) == name
+
+
+def test_times_that_can_not_be_kept_end_no_run(tmp_path):
+    (tmp_path / "parts.json").mkdir()
+    write(tmp_path / "parts.json", {"tests": 1.0})
+    assert os.listdir(tmp_path) == ["parts.json"]
+
+
+def test_without_git_the_gate_has_its_first_turn(monkeypatch, capfd):
+    gate = program_of(f"{TOP}/tests/run")
+    monkeypatch.setenv("GIT_DIR", "/none")
+    assert gate.commits() == 1
+    monkeypatch.setenv("PATH", "/none")
+    assert gate.commits() == 1 and capfd.readouterr() == ("", "")
 
 
 # a gate of three commands, of which the first two print more than a pipe holds when they are interrupted

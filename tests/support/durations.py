@@ -4,6 +4,7 @@ from __future__ import annotations
 import json
 import os
 import re
+from contextlib import suppress
 from pathlib import Path
 
 FOLDER = Path(__file__).resolve().parent.parent / "out"
@@ -19,11 +20,16 @@ def read(path: Path) -> dict[str, float]:
 
 
 def write(path: Path, seconds: dict[str, float]) -> None:
-    """Adds what was measured to what is there. Tests that run tests write too, each a file of its own first."""
-    FOLDER.mkdir(exist_ok=True)
+    """Adds what was measured to what is there. Tests that run tests write too, each a file of its own first. If
+    nothing can be written, as on a full disk, nothing is kept."""
     made = path.with_suffix(f".{os.getpid()}")
-    made.write_text(json.dumps({**read(path), **{name: round(took, 2) for name, took in seconds.items()}}))
-    made.replace(path)
+    with suppress(OSError):
+        try:
+            FOLDER.mkdir(exist_ok=True)
+            made.write_text(json.dumps({**read(path), **{name: round(took, 2) for name, took in seconds.items()}}))
+            made.replace(path)
+        finally:
+            made.unlink(missing_ok=True)
 
 
 def name_of(test: str) -> str:
