@@ -5,6 +5,7 @@ from __future__ import annotations
 import glob
 import os
 import re
+import shutil
 import signal
 import subprocess
 import sys
@@ -14,6 +15,7 @@ from support.durations import name_of, write
 from support.inner_runs import run_tests
 from support.places import TOP
 from support.programs import program_of
+from support.running import run_command
 
 ASKED = re.compile(r'want_(?:command|module)\((?:\w+, )?"[^"]+", "([^"]+)"\)')
 # of each Debian, or with another package
@@ -57,6 +59,29 @@ def test_without_git_the_gate_has_its_first_turn(monkeypatch, capfd):
     assert gate.commits() == 1
     monkeypatch.setenv("PATH", "/none")
     assert gate.commits() == 1 and capfd.readouterr() == ("", "")
+
+
+# in the place of commands of Debian: a package of a kernel is an archive, and one alone can be unpacked
+APT = """#!/bin/sh
+case "$*" in *download*) mkdir -p boot lib && tar -cf linux-image-6_2_amd64.deb ./boot ./lib;; esac
+"""
+CACHE = "#!/bin/sh\necho '  Depends: linux-image-6'\n"
+DPKG = "#!/bin/sh\n[ $# = 2 ] && exec cat \"$2\"\n"
+
+
+def test_a_kernel_that_a_killed_run_was_unpacking_is_unpacked_by_the_next(tmp_path):
+    for name, text in (("apt-get", APT), ("apt-cache", CACHE), ("dpkg-deb", DPKG), ("tests/run", "#!/bin/sh\n")):
+        path = tmp_path / name if "/" in name else tmp_path / "bin" / name
+        path.parent.mkdir(exist_ok=True)
+        path.write_text(text)
+        path.chmod(0o755)
+    (tmp_path / ".ci").mkdir()
+    shutil.copy(f"{TOP}/.ci/run", tmp_path / ".ci/run")
+    (tmp_path / "tests/out/kernel.part").mkdir(parents=True)
+    (tmp_path / "tests/out/kernel.part/linux-image-6_1_amd64.deb").write_text("half")
+    ended = run_command([f"{tmp_path}/.ci/run"], PATH=f"{tmp_path}/bin:{os.environ['PATH']}")
+    assert ended.returncode == 0 and os.listdir(tmp_path / "tests/out") == ["kernel"], ended.stdout
+    assert sorted(os.listdir(tmp_path / "tests/out/kernel")) == ["boot", "lib"]
 
 
 # a gate of three commands, of which the first two print more than a pipe holds when they are interrupted
