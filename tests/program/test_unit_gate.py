@@ -84,6 +84,25 @@ def test_a_kernel_that_a_killed_run_was_unpacking_is_unpacked_by_the_next(tmp_pa
     assert sorted(os.listdir(tmp_path / "tests/out/kernel")) == ["boot", "lib"]
 
 
+# in the place of the kit, which knows no crate
+KIT = """class rtlib:
+    guarded = staticmethod(lambda: [])
+    crates_below = staticmethod(lambda top: [])
+"""
+
+
+def test_wrong_bodies_whose_log_can_not_be_written_leave_no_folder(tmp_path):
+    for folder in ("bin", "temporary", "log"):
+        (tmp_path / folder).mkdir()
+    text = f"#!{sys.executable}\n{KIT}if __name__ == '__main__':\n    print('{tmp_path}/doc')\n"
+    (tmp_path / "bin/rt").write_text(text)
+    (tmp_path / "bin/rt").chmod(0o755)
+    ended = run_command([f"{TOP}/tools/try-edits", "--log", f"{tmp_path}/log"], TMPDIR=f"{tmp_path}/temporary",
+                        PATH=f"{tmp_path}/bin:{os.environ['PATH']}")
+    assert ended.stdout == f"{tmp_path}/log can't be written: Is a directory\n"
+    assert os.listdir(tmp_path / "temporary") == []
+
+
 # a gate of three commands, of which the first two print more than a pipe holds when they are interrupted
 GATE = f"""
 import signal, sys
