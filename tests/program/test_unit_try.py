@@ -67,3 +67,32 @@ def test_the_last_lines_hold_in_the_folder_where_the_trial_was_called(monkeypatc
         assert line[2] == "python3" and os.path.samefile(line[3], f"{TOP}/indexctl")
     assert Path(upload[-1]).resolve() == folder / trial["NEXT"]
     assert Path(install[-2]).resolve() == folder / "installed"
+
+
+# in the place of the kit: a build of some sources is cut off when its program is there
+BUILD = """import os
+class NotBuilt(Exception):
+    pass
+def build(top, target, **more):
+    os.makedirs(os.path.dirname(target), exist_ok=True)
+    with open(target, "w") as made:
+        made.write("#!/bin/sh\\nexit 9\\n")
+    os.chmod(target, 0o755)
+    raise NotBuilt("the disk is full")
+"""
+
+
+def test_what_a_build_that_failed_left_is_not_taken_for_the_program(clone):
+    """Also if the sources are again those of the program that it took the place of."""
+    os.remove(clone / "crates/index/out/index")
+    (clone / "tools/lib/unproved.py").write_text(BUILD)
+    (clone / "crates.txt").write_text("")
+    stamps = ("import runpy, sys; trial = runpy.run_path(sys.argv[1]); trial['UNPROVED'].parent.mkdir(); "
+              "trial['UNPROVED'].with_suffix('.sources').write_text(trial['sources']())")
+    subprocess.run([sys.executable, "-B", "-c", stamps, f"{clone}/tools/try"], check=True)
+    said = []
+    for _ in range(2):
+        ended = subprocess.run([sys.executable, f"{clone}/tools/try"], stdout=subprocess.PIPE, stderr=subprocess.PIPE,
+                               text=True, check=False)
+        said.append((ended.returncode, ended.stderr))
+    assert said == [(1, "tools/try: the disk is full\n")] * 2
