@@ -1,11 +1,14 @@
-"""Which files tools/check-docs and tools/check-style look at."""
+"""Which files tools/check-docs and tools/check-style look at, and how they print what the locale lacks."""
 from __future__ import annotations
 
 import os
+import sys
 
 import top
 from pages import files
-from support.running import write_below
+from support.places import TOP
+from support.running import run_command, write_below
+from trial import parser_of
 
 
 def test_what_is_no_file_of_the_repository_is_not_looked_at(tmp_path, monkeypatch):
@@ -17,3 +20,15 @@ def test_what_is_no_file_of_the_repository_is_not_looked_at(tmp_path, monkeypatc
         monkeypatch.setattr(module, "TOP", str(tmp_path))
     assert files.pages() == ["docs/A.md"]
     assert top.files_below("tools") == ["tools/d"] and top.files_below("") == ["docs/A.md", "tools/d"]
+
+
+def test_what_the_locale_lacks_is_printed_as_an_escape():
+    """As by LC_ALL=de_DE, which is Latin-1."""
+    prints = "from trial import parser_of; parser_of('a', has_program=False); print('\u2261')"
+    ended = run_command([sys.executable, "-c", prints], PYTHONPATH=f"{TOP}/tools/lib", PYTHONIOENCODING="iso8859-1")
+    assert (ended.returncode, ended.stdout) == (0, "\\u2261\n")
+
+
+def test_no_output_is_needed(monkeypatch):
+    monkeypatch.setattr(sys, "stdout", None)
+    assert parser_of("a", has_program=False)

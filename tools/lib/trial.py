@@ -11,7 +11,9 @@ from top import PROGRAM
 
 
 def parser_of(text: str, has_program: bool = True) -> argparse.ArgumentParser:
-    """The options of a command, of which `text` says what it does."""
+    """The options of a command, of which `text` says what it does. What its locale lacks is printed as an escape."""
+    if sys.stdout:
+        sys.stdout.reconfigure(errors="backslashreplace")
     parser = argparse.ArgumentParser(description=text, formatter_class=argparse.RawDescriptionHelpFormatter)
     if has_program:
         parser.add_argument("--program", metavar="PATH", type=os.path.abspath, default=PROGRAM,
