@@ -61,6 +61,15 @@ def test_without_git_the_gate_has_its_first_turn(monkeypatch, capfd):
     assert gate.commits() == 1 and capfd.readouterr() == ("", "")
 
 
+def test_a_list_of_the_gate_that_is_cut_off_ends_without_a_word():
+    """As by `tests/run --list | head`."""
+    read_end, write_end = os.pipe()
+    os.close(read_end)
+    with subprocess.Popen([f"{TOP}/tests/run", "--list"], stdout=write_end, stderr=subprocess.PIPE) as listing:
+        os.close(write_end)
+        assert listing.stderr.read() == b"" and listing.wait(timeout=60) == -signal.SIGPIPE
+
+
 # in the place of commands of Debian: a package of a kernel is an archive, and one alone can be unpacked
 APT = """#!/bin/sh
 case "$*" in *download*) mkdir -p boot lib && tar -cf linux-image-6_2_amd64.deb ./boot ./lib;; esac
