@@ -61,6 +61,19 @@ def test_without_git_the_gate_has_its_first_turn(monkeypatch, capfd):
     assert gate.commits() == 1 and capfd.readouterr() == ("", "")
 
 
+@pytest.mark.skipif(os.geteuid() != 0, reason="only root may give a repository to another user")
+def test_the_turns_go_on_in_the_repository_of_another_user(monkeypatch, tmp_path):
+    """As in a container, where git else refuses to look at it."""
+    git = ["git", "-C", str(tmp_path), "-c", "user.name=ann", "-c", "user.email=ann@example.org"]
+    for words in (["init"], *[["commit", "--allow-empty", "--message", "a change"]] * 2):
+        assert run_command([*git, *words]).returncode == 0
+    for path in (tmp_path, tmp_path / ".git"):
+        os.chown(path, 65534, 65534)
+    gate = program_of(f"{TOP}/tests/run")
+    monkeypatch.setattr(gate, "TOP", str(tmp_path))
+    assert gate.commits() == 2
+
+
 def test_a_list_of_the_gate_that_is_cut_off_ends_without_a_word():
     """As by `tests/run --list | head`."""
     read_end, write_end = os.pipe()

@@ -3,6 +3,7 @@ them. They run in a small repository in which debhelper and a proof are a few li
 from __future__ import annotations
 
 import os
+import re
 import shlex
 import signal
 import subprocess
@@ -162,4 +163,13 @@ def test_a_release_that_a_full_disk_cuts_off_is_not_there(tried):
 def test_a_tree_without_git_has_no_commit_of_the_repository_around_it(tried):
     os.rename(f"{tried.top}/.git", f"{tried.folder}/.git")
     ended = tried.ended(*tried.words("package")[:4], "--out", tried.out)
-    assert ended.returncode == 0 and ended.stdout.endswith(".unknown_amd64.deb\n"), ended.stdout
+    assert ended.returncode == 0 and ended.stdout.endswith(".unknown_amd64.deb\n"), ended
+
+
+@pytest.mark.skipif(os.geteuid() != 0, reason="only root may give a repository to another user")
+def test_the_repository_of_another_user_has_its_commit(tried):
+    """As in a container, where git else refuses to look at it."""
+    for path in (tried.top, f"{tried.top}/.git"):
+        os.chown(path, 65534, 65534)
+    ended = tried.ended(*tried.words("package")[:4], "--out", tried.out, SUDO_UID="0")
+    assert ended.returncode == 0 and re.search(r"git20300102030405\.[0-9a-f]{7,}_amd64\.deb$", ended.stdout), ended
