@@ -173,3 +173,14 @@ def test_the_repository_of_another_user_has_its_commit(tried):
         os.chown(path, 65534, 65534)
     ended = tried.ended(*tried.words("package")[:4], "--out", tried.out, SUDO_UID="0")
     assert ended.returncode == 0 and re.search(r"git20300102030405\.[0-9a-f]{7,}_amd64\.deb$", ended.stdout), ended
+
+
+def test_what_an_editor_leaves_is_not_in_a_package(tried):
+    """The lock of Emacs leads nowhere."""
+    tried.does("acts", "find server indexctl docs -name '.*' -o -name '*~' > '{folder}/found'")
+    os.symlink("ann@host.1", f"{tried.top}/docs/.#PAGE.md")
+    for path in ("server/bin/index-alarm~", "docs/operators/.PAGE.md.swp", "indexctl/.mypy_cache/a.json"):
+        tried.put(path, "")
+    ended = tried.ended(*tried.words("package"))
+    assert (ended.returncode, ended.stdout) == (0, f"{tried.out}/{NAME}\n")
+    assert (tried.folder / "found").read_text() == ""
