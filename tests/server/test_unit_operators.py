@@ -1,0 +1,37 @@
+"""What the pages of operators have a person paste, where no machine is needed for it."""
+from __future__ import annotations
+
+import os
+from pathlib import Path
+
+from support.running import run_command
+from support.server.pasted import block
+from support.server.stand_ins import called, stand_ins
+
+
+
+def renewed(live: Path, number: int) -> None:
+    """What certbot does at each renewal: new files, to which its links lead then."""
+    archive = live.parent.parent / "archive"
+    for name in ("fullchain", "privkey"):
+        (archive / f"{name}{number}.pem").write_text(f"{name} {number}")
+        (live / f"{name}.pem").unlink(missing_ok=True)
+        (live / f"{name}.pem").symlink_to(f"../../archive/{name}{number}.pem")
+
+
+def test_nginx_has_the_files_that_certbot_renews_and_reads_them_again(tmp_path):
+    etc, path = tmp_path / "etc", stand_ins(f"{tmp_path}/bin", systemctl="")
+    live = etc / "letsencrypt" / "live" / "packages.example"
+    for folder in (etc / "ssl", etc / "letsencrypt" / "archive", live):
+        folder.mkdir(parents=True)
+    for kind in ("pem", "key"):
+        (etc / "ssl" / f"packages.example.{kind}").write_text("of a copy")
+    renewed(live, 1)
+    ended = run_command(["bash", "-c", block("ln -sf /etc/letsencrypt/live").replace("/etc/", f"{etc}/")])
+    assert (ended.returncode, ended.stdout) == (0, "")
+    renewed(live, 2)
+    assert (etc / "ssl" / "packages.example.pem").read_text() == "fullchain 2"
+    assert (etc / "ssl" / "packages.example.key").read_text() == "privkey 2"
+    hook, = (etc / "letsencrypt" / "renewal-hooks" / "deploy").iterdir()
+    assert run_command([str(hook)], PATH=path).returncode == 0 and os.access(hook, os.X_OK)
+    assert called(f"{tmp_path}/bin") == "systemctl reload nginx\n"
