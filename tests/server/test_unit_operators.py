@@ -4,10 +4,18 @@ from __future__ import annotations
 import os
 from pathlib import Path
 
+from support.places import TOP
 from support.running import run_command
 from support.server.pasted import block
 from support.server.stand_ins import called, stand_ins
 
+# what is turned on once for a machine, however many indexes it has
+FOR_ALL = {"index-alarms.timer", "index-certificate.timer", "index-uncache-follow.service"}
+THREE = "office=$(openssl rand -hex 32)\nfor"
+
+
+def page(name: str) -> str:
+    return Path(f"{TOP}/docs/operators/{name}.md").read_text(encoding="utf-8")
 
 
 def renewed(live: Path, number: int) -> None:
@@ -35,3 +43,18 @@ def test_nginx_has_the_files_that_certbot_renews_and_reads_them_again(tmp_path):
     hook, = (etc / "letsencrypt" / "renewal-hooks" / "deploy").iterdir()
     assert run_command([str(hook)], PATH=path).returncode == 0 and os.access(hook, os.X_OK)
     assert called(f"{tmp_path}/bin") == "systemctl reload nginx\n"
+
+
+def test_several_indexes_turn_on_what_tells_and_what_forgets():
+    assert FOR_ALL <= set(block(THREE).split())
+
+
+def test_nginx_asks_new_indexes_only_once_they_have_what_the_one_before_had():
+    """Else each name that was held is free, and a banned file may come again."""
+    before, _, after = page("SCALING").partition(block(THREE))
+    assert "index-backup.service" in before and "shards.conf /etc/nginx" not in block(THREE)
+    assert "restore that backup" in after.partition(block("cp /usr/share/package-index/shards.conf"))[0]
+
+
+def test_nginx_on_a_machine_of_its_own_forgets_what_was_deleted():
+    assert "systemctl enable --now index-uncache-follow.service" in page("TWO-MACHINES")

@@ -216,8 +216,9 @@ class Life:
         seen["shrunk"] = root.sh("index-reseal /var/lib/index/index.db /sealed.db && install -o index -g index -m 600 "
                                  "/sealed.db /var/lib/index/index.db")
         seen["after"], seen["held"] = self.size(), self.held()
-        seen["three"] = root.sh(block("office=$(openssl rand -hex 32)\nfor"))
-        seen["three again"] = root.sh(block("office=$(openssl rand -hex 32)\nfor"))
+        three = block("office=$(openssl rand -hex 32)\nfor")
+        seen["three"] = root.sh(three + block("cp /usr/share/package-index/shards.conf"))
+        seen["three again"] = root.sh(three)
         seen["modes"] = root.sh("stat -c '%U %a' /var/lib/index/808[012] /var/lib/index/808[012]/index.db").stdout
         seen["asked"] = root.sh("cat /systemctl.log").stdout
         return seen
