@@ -2,12 +2,14 @@
 from __future__ import annotations
 
 import os
+import re
 from pathlib import Path
 
 from support.places import TOP
 from support.running import run_command
 from support.server.pasted import block
 from support.server.stand_ins import called, stand_ins
+from support.server.watched import unit
 
 # what is turned on once for a machine, however many indexes it has
 FOR_ALL = {"index-alarms.timer", "index-certificate.timer", "index-uncache-follow.service"}
@@ -54,6 +56,12 @@ def test_nginx_asks_new_indexes_only_once_they_have_what_the_one_before_had():
     before, _, after = page("SCALING").partition(block(THREE))
     assert "index-backup.service" in before and "shards.conf /etc/nginx" not in block(THREE)
     assert "restore that backup" in after.partition(block("cp /usr/share/package-index/shards.conf"))[0]
+
+
+def test_the_page_names_the_number_of_copies_that_the_unit_keeps():
+    """Whoever makes copies more often has to raise it: else a mistake of yesterday is in each copy."""
+    command, = re.findall("^ExecStart=.*index-backup .*", unit("index-backup.service"), re.M)
+    assert f"raise the {command.split()[-1]} in `index-backup.service`" in page("RECOVERY")
 
 
 def test_nginx_on_a_machine_of_its_own_forgets_what_was_deleted():
