@@ -88,6 +88,11 @@ def test_each_file_for_nginx_has_its_original_there(paths):
     assert {f"usr/share/package-index/{it}" for it in os.listdir(f"{SERVER}/nginx")} <= paths
 
 
+def test_what_changed_is_in_it(paths):
+    """Whoever upgrades has to go by it, and may have the package alone."""
+    assert "usr/share/package-index/CHANGELOG.md" in paths
+
+
 def test_all_pages_of_docs_are_in_it(paths, looked):
     for folder, _, names in os.walk(f"{TOP}/docs"):
         for name in names:
