@@ -5,7 +5,7 @@ import os
 import re
 from pathlib import Path
 
-from support.places import TOP
+from support.places import SERVER, TOP
 from support.running import run_command
 from support.server.pasted import block
 from support.server.stand_ins import called, stand_ins
@@ -13,6 +13,7 @@ from support.server.watched import unit
 
 # what is turned on once for a machine, however many indexes it has
 FOR_ALL = {"index-alarms.timer", "index-certificate.timer", "index-uncache-follow.service"}
+PAGES = "INSTALL", "OPERATING", "RECOVERY", "SCALING"
 THREE = "office=$(openssl rand -hex 32)\nfor"
 
 
@@ -45,6 +46,14 @@ def test_nginx_has_the_files_that_certbot_renews_and_reads_them_again(tmp_path):
     hook, = (etc / "letsencrypt" / "renewal-hooks" / "deploy").iterdir()
     assert run_command([str(hook)], PATH=path).returncode == 0 and os.access(hook, os.X_OK)
     assert called(f"{tmp_path}/bin") == "systemctl reload nginx\n"
+
+
+def test_what_a_block_calls_comes_with_the_package():
+    """A new Debian has none of these, and a block that lacks one ends in its midst."""
+    recommended, = re.findall("^Recommends: (.*)$", Path(f"{SERVER}/debian/control").read_text(), re.M)
+    blocks = "".join(it for name in PAGES for it in re.findall("^```sh\n(.*?)^```$", page(name), re.M | re.S))
+    called_there = {it for it in ("curl", "nginx", "openssl", "sqlite3") if re.search(rf"(?<![\w/.-]){it} ", blocks)}
+    assert called_there == {it.split()[0] for it in recommended.split(", ")}
 
 
 def test_several_indexes_turn_on_what_tells_and_what_forgets():
