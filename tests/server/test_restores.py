@@ -4,12 +4,13 @@ import glob
 import gzip
 import json
 import os
+import re
 import shutil
 import signal
 import sys
 
 import pytest
-from support.places import BIN
+from support.places import BIN, TOP
 from support.running import kill_after, run_command
 from support.server.expected import assert_ends, assert_reply
 from support.server.restores import KILLED, KILLS, names_of, restores
@@ -171,6 +172,26 @@ def test_a_complete_copy_forgets_nothing_so_pypi_stays_on(by, looked):
     looked("forgets" not in ended.stdout, ended.stdout)
     looked(by.missing() == [], by.missing())
     assert_reply(by.front.ask("GET", "/simple/other/"), 200, None, b"a stranger's")
+
+
+@pytest.mark.slow
+def test_page_sums_are_taken_off_as_the_page_says(by):
+    """Also of an index that was ended, and left a log, which sqlite3 brings into the database."""
+    with open(f"{TOP}/docs/operators/RECOVERY.md", encoding="utf-8") as page:
+        command = re.search("take sums off, with the index stopped: `(.*?)`, then", page.read())[1]
+    sealed, plain = f"{by.folder}/sealed.db", f"{by.folder}/plain.db"
+    by.index.stop()
+    assert_ends(run_command([f"{BIN}/index-reseal", by.index.path, sealed], INDEX=by.program), 0)
+    assert_ends(by.run(sealed, "--complete"), 0)
+    # so long that sqlite3 takes some ticks of the clock to bring it in
+    by.upload("frob-3.0.tar.gz", bytes(15_000_000), by.after)
+    by.index.stop()
+    assert os.path.getsize(f"{by.index.path}-wal")
+    assert_ends(run_command(["sh", "-c", command.replace("/var/lib/index", by.folder)]), 0)
+    assert_ends(by.run(plain, "--complete"), 0)
+    assert by.missing() == []
+    with open(by.index.path, "rb") as database:
+        assert database.read(21)[20] == 0
 
 
 class TestAComplete:
