@@ -19,6 +19,17 @@ def made(program, folder):
     return make_both(program, f"{folder}/made")
 
 
+def its_options(restores):
+    """By which the way back leads to this index, and not to the one of the defaults."""
+    return f"--db {restores.index.path} --url http://127.0.0.1:{restores.index.port} --unit index.service"
+
+
+def way_back(restores, said):
+    """The copy that the last line names; None if it is another line, or of another index."""
+    found = re.search(rf"\nTo go back to them: index-restore {re.escape(its_options(restores))} (\S+)\n$", said)
+    return found and found[1]
+
+
 @pytest.mark.slow
 @pytest.mark.timeout(1800)
 @pytest.mark.parametrize("number", [signal.SIGINT, signal.SIGTERM, signal.SIGHUP])
@@ -31,8 +42,8 @@ def test_a_signal_at_each_step_leaves_what_was_or_what_was_asked_for_and_says_wh
         looked(restores.is_served(), *said)
         if ended.returncode == 0:
             looked(names == ["kept"] and "is in its place" in ended.stdout, *said)
-            back = re.search(r"\nTo go back to them: index-restore (.*)\n$", ended.stdout)
-            looked(back and restores.names(back[1]) == ["later"], *said)
+            back = way_back(restores, ended.stdout)
+            looked(back and restores.names(back) == ["later"], *said)
             looked("1. Changes since 2026-01-01" in ended.stdout and len(restores.left()) == 1, *said)
         else:
             looked(ended.returncode == -number and names == ["later"] and restores.left() == [], *said)
@@ -55,9 +66,9 @@ def test_killed_at_each_step_it_is_finished_or_begun_again_by_the_same_command(m
         again = restores.run()
         said = step, names, restores.left(), ended.stdout, again.stdout
         looked(again.returncode == 0 and restores.names() == ["kept"] and restores.is_served(), *said)
-        back = re.search(r"\nTo go back to them: index-restore (.*)\n$", again.stdout)
-        looked(back and restores.names(back[1]) == ["later"], *said)
-        looked(len(restores.left()) == 1 and os.stat(back[1]).st_nlink == 1, *said)
+        back = way_back(restores, again.stdout)
+        looked(back and restores.names(back) == ["later"], *said)
+        looked(len(restores.left()) == 1 and os.stat(back).st_nlink == 1, *said)
         looked(("only finishes it" in again.stdout) == (names == ["kept"]), *said)
         looked("PyPI was taken off" in again.stdout and not os.path.exists(f"{folder}/{step}/cache/{KEPT}"), *said)
         seen.append(names)
@@ -137,4 +148,4 @@ def test_the_way_back_without_a_database_is_the_newest_that_was_put_aside(restor
         os.remove(path)
     wait_for(lambda: time.strftime("before-%Y%m%dT%H%M%SZ", time.gmtime()) != before)
     assert_ends(restores.run(), 0, "No database was in its place.",
-                f"To go back to it: index-restore {restores.folder}/var/{before}/index.db\n")
+                f"To go back to it: index-restore {its_options(restores)} {restores.folder}/var/{before}/index.db\n")

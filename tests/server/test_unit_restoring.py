@@ -35,6 +35,7 @@ class World:
         (tmp_path / "pypi.conf").touch()
         self.words = types.SimpleNamespace(**{
             "copy": self.copy, "older": False, "complete": False, "url": "http://x:1", "cache": ["/c/"],
+            "db": RESTORE.DB, "unit": None,
             "changes": [str(tmp_path / "changes.log")], "with_pypi": str(tmp_path / "pypi.conf"), **changed})
         self.units = RESTORE.Units(["a.service"])
         for module in (RESTORE, library_units):
@@ -275,7 +276,19 @@ def test_the_words_of_a_restore(tmp_path, monkeypatch, capsys):
 def test_the_way_back_is_to_the_newest_that_was_put_aside(tmp_path, monkeypatch):
     names = [f"{tmp_path}/before-2026010{day}T000000Z/index.db" for day in (2, 3, 1)]
     monkeypatch.setattr(RESTORE.glob, "glob", lambda _: names)
-    assert f"To go back to it: index-restore {names[1]}\n" in RESTORE.way_back(f"{tmp_path}/before-now")
+    words = types.SimpleNamespace(db=RESTORE.DB)
+    assert f"To go back to it: index-restore {names[1]}\n" in RESTORE.way_back(words, f"{tmp_path}/before-now")
+
+
+@pytest.mark.parametrize("is_there", [True, False])
+def test_the_way_back_of_one_of_several_indexes_is_to_itself(tmp_path, monkeypatch, is_there):
+    """Without its options the line that is printed would have it take the place of another index."""
+    (tmp_path / "index.db").touch()
+    monkeypatch.setattr(RESTORE.glob, "glob", lambda _: [f"{tmp_path}/index.db"])
+    words = types.SimpleNamespace(db="/var/lib/index/8081/index.db", url="http://x:8081", unit=["index@8081.service"])
+    said = RESTORE.way_back(words, str(tmp_path) if is_there else f"{tmp_path}/none")
+    assert said.endswith(": index-restore --db /var/lib/index/8081/index.db --url http://x:8081 --unit "
+                         f"index@8081.service {tmp_path}/index.db\n")
 
 
 def test_restores_that_were_killed_are_told_the_oldest_first(tmp_path, monkeypatch, capsys):
