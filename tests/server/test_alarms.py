@@ -36,7 +36,7 @@ def test_an_alarm_stands_in_the_journal(alarm, bin_folder):
 
 
 def test_no_mail_goes_to_nobody(alarm, bin_folder):
-    alarm("--mail")
+    assert_ends(alarm("--mail"), 0)
     assert "sendmail" not in called(bin_folder)
 
 

@@ -63,7 +63,8 @@ def test_a_copy_of_this_second_is_taken(copies):
 
 
 def test_only_copies_of_index_backup_are_newer(copies):
-    for name in ("index-20270101T000000Z.db.part", "xindex-20270101T000000Z.db", "index-later.db"):
+    # (by their names alone, these would be newer than the copy, and of no later time than now)
+    for name in ("index-20260103T000000Z.db.part", "index-20260103T000000Z.kept.db", "index-20260103.db"):
         (copies / name).write_bytes(DATABASE)
     RESTORE.look_at_copy(str(copies / "index-20260102T000000Z.db"), "/none", False)
     # one of another name is not compared
