@@ -8,7 +8,7 @@ import tempfile
 from dataclasses import dataclass
 
 import pytest
-from support.breaks import all_breaks, names_of
+from support.breaks import all_breaks, loose_names, names_of
 from support.inner_runs import Ended, names_in
 from support.places import TOP
 
@@ -55,6 +55,14 @@ def test_can_be_made(one):
     assert one.texts() or one.program or one.alter
     assert one.caught, "it names no test that sees it"
     assert not one.unknown_tests(), "no file has these tests"
+    assert not one.loose_names(), "it reads these names, which nothing makes"
+
+
+@pytest.mark.parametrize("text, names", [
+    ("if words:\n    pass", {"words"}), ("def f(a):\n    return [b for b in a if c]", {"c"}),
+    ("import a\nb: int = len(a.c)\ndef f(d=b):\n    global e\n    e = d\nf(e)", set())])
+def test_a_name_that_nothing_makes_is_known(text, names):
+    assert loose_names(text) == names
 
 
 def files_with_breaks():

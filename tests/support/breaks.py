@@ -14,10 +14,12 @@ PATTERN => TEXT` has the pages altered on their way from the index (the option -
 from __future__ import annotations
 
 import ast
+import builtins
 import functools
 import glob
 import os
 import re
+import symtable
 from dataclasses import dataclass, field
 
 from support.inner_runs import Ended, copy_rooms, run_tests
@@ -63,6 +65,16 @@ class Break:
             made[path] = made[path].replace(old, new)
         return made
 
+    def loose_names(self) -> set:
+        """Those that its Python files read since it was made, and that nothing makes: what fails then fails by them."""
+        found: set = set()
+        for path, text in self.texts().items() if self.changes else ():
+            with open(f"{TOP}/{path}", encoding="utf-8") as kept:
+                before = kept.read()
+            if path.endswith(".py") or "python3" in before.partition("\n")[0]:
+                found |= loose_names(text) - loose_names(before)
+        return found
+
     def unknown_tests(self) -> list:
         """Those at `caught` that no file has."""
         return [name for name in self.caught if not has_test(name)]
@@ -89,6 +101,18 @@ class Break:
         # of one test the first failure is enough
         words += ["-x"] if len(self.caught) == 1 else []
         return run_tests(f"{folder}/copy", self.caught, "--program", made, *words, seconds=seconds)
+
+
+def loose_names(text: str) -> set:
+    """The names that a Python text reads, and that neither it nor Python makes."""
+    tables = [symtable.symtable(text, "text", "exec")]
+    for it in tables:
+        tables += it.get_children()
+    symbols = [(it, each) for it in tables for each in it.get_symbols()]
+    made = {each.get_name() for it, each in symbols if (it is tables[0] or each.is_declared_global())
+            and (each.is_assigned() or each.is_imported())}
+    read = {each.get_name() for _, each in symbols if each.is_global() and each.is_referenced()}
+    return read - made - {*dir(builtins)}
 
 
 @functools.cache
