@@ -74,6 +74,7 @@ TASKS = (
     Task("a quota below the charge", ["quota", "set", "gamma", "100"], ["QuotaBelowCharge", "900 B"], 1),
     Task("quotas near the end", ["quotas", "--above", "80", "--json"]),
     Task("quotas from 90 on", ["quotas", "--above", "90", "--json"]),
+    Task("quotas above 90", ["quotas", "--above", "90.1", "--json"]),
     Task("the open cases", ["case", "list", "--json"]),
     Task("a slip in the means", ["case", "attempt", "alpha", "mail"], ["invalid choice"], 2),
     Task("a transfer too soon", ["case", "transfer", "alpha", "--quiet", "--yes"],
@@ -180,6 +181,7 @@ def test_each_user_has_the_token_that_was_printed(month: Month) -> None:
 def test_a_quota_is_near_its_end_from_the_percent_on_that_was_given(month: Month) -> None:
     for task in ("quotas near the end", "quotas from 90 on"):
         assert [(row["name"], row["full"]) for row in month.rows(task)] == [("gamma", 90.0)]
+    assert month.rows("quotas above 90") == []
 
 
 def test_open_cases_come_with_the_moment_at_which_each_can_be_ready(month: Month) -> None:

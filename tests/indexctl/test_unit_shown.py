@@ -32,6 +32,8 @@ def test_lists_have_their_rows(run, capsys):
     assert [row["name"] for row in rows_of(capsys)] == ["a"]
     run("quotas", "--above", "80", "--json")
     assert [(row["name"], row["full"]) for row in rows_of(capsys)] == [("a", 80.0)]
+    run("quotas", "--above", "80.1", "--json")
+    assert rows_of(capsys) == []
     run("quota", "show", "b", "--json")
     assert rows_of(capsys) == [{"name": "b", "full": 0.1, "charge": 1, "quota": 1_000, "owners": ["ann"]}]
 
