@@ -11,6 +11,7 @@ from support.unit import raises
 
 RESTORE, RESEAL, LOG, FOLLOW = map(program_of, ("index-restore", "index-reseal", "index-log", "index-uncache-follow"))
 HEAD = b"SQLite format 3\0"
+NAMES = "index.db", "index.db-wal", "copy.db", "copy.db-wal"
 
 
 @pytest.fixture
@@ -31,7 +32,7 @@ def unreadable(monkeypatch):
 @pytest.fixture
 def files(tmp_path):
     """The paths of a database and its log, and of a copy with a log."""
-    for name in ("index.db", "index.db-wal", "copy.db", "copy.db-wal"):
+    for name in NAMES:
         (tmp_path / name).write_bytes(HEAD + name.encode())
     return types.SimpleNamespace(folder=tmp_path, db=f"{tmp_path}/index.db", copy=f"{tmp_path}/copy.db")
 
@@ -49,8 +50,8 @@ def test_a_copy_is_put_beside_no_log_and_over_no_database_that_can_not_be_seen(f
     unreadable(files.db + end)
     with pytest.raises(OSError, match="Input/output error"):
         exchange.exchange(files.db, files.copy, f"{files.folder}/aside", "")
-    for name in os.listdir(files.folder):
-        assert name == "aside" or (files.folder / name).read_bytes() == HEAD + name.encode()
+    for name in NAMES:
+        assert (files.folder / name).read_bytes() == HEAD + name.encode()
 
 
 def test_names_that_can_not_be_put_back_stay_where_they_are(files, unreadable):
