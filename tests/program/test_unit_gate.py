@@ -18,6 +18,8 @@ from support.programs import program_of
 from support.running import run_command
 
 ASKED = re.compile(r'want_(?:command|module)\((?:\w+, )?"[^"]+", "([^"]+)"\)')
+# the packages of a line of .ci/run
+INSTALLS = re.compile(r"^(?:need .* --| *install)((?: +[a-z][\w.+-]*)+)$", re.M)
 # of each Debian, or with another package
 THERE = {"systemd", "util-linux", "python3-keyring"}
 # of tests that are run by hand alone
@@ -30,7 +32,7 @@ def test_each_package_that_a_test_asks_for_is_installed():
         with open(path, encoding="utf-8") as kept:
             asked |= {*ASKED.findall(kept.read())}
     with open(f"{TOP}/.ci/run", encoding="utf-8") as kept:
-        installed = {*re.findall(r"[\w.+-]+", kept.read())}
+        installed = {*" ".join(INSTALLS.findall(kept.read().replace("\\\n", ""))).split()}
     assert {"nginx-light", "nftables", "python3-html5lib"} <= asked
     assert not asked - installed - THERE - BY_HAND
 
