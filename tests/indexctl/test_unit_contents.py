@@ -1,7 +1,6 @@
 """What a page has of a project, the order of its releases, and what was meant by a slip."""
 from __future__ import annotations
 
-import itertools
 import json
 import random
 
@@ -13,6 +12,11 @@ from support.indexctl.rows import FakeIndex, args, reply
 DIGEST = "ab" * 32
 ORDERED = ("strange_", "0.9", "1.0.dev1", "1.0a1.dev1", "1.0a1", "1.0b2", "1.0rc1", "1.0", "1.0+abc", "1.0+5",
            "1.0.post1.dev1", "1.0.post1", "1.1.dev1", "1.2", "1.10", "2021.1", "1!0.1")
+# of which a version has one each, in all their spellings
+PARTS = (("", "0!", "1!"), ("1", "1.0", "1.00", "1.0.1", "0", "10"),
+         ("", "a1", "alpha1", "_beta.1", "b", "c1", "RC1", "pre1", ".preview", "pre10"),
+         ("", ".post1", "post", "_rev1", "r2", "post.10"), ("", ".dev1", "dev", "_dev2"),
+         ("", "+abc", "+5", "+05", "+abc.5", "+abc_10", "+abc.10", "+ab"))
 
 
 def page(*files, **more):
@@ -78,10 +82,14 @@ def test_long_numbers_are_compared_whole(form):
 
 
 def test_releases_are_ordered_as_installers_do(looked):
-    packaging = pytest.importorskip("packaging.version", reason="python3-packaging")
-    real = [it for it in ORDERED if it != "strange_"]
-    for one, other in itertools.combinations(real, 2):
-        looked(packaging.Version(one) < packaging.Version(other), one, other)
+    version = pytest.importorskip("packaging.version", reason="python3-packaging").Version
+    chance = random.Random(7)
+    for _ in range(5_000):
+        parts = [chance.choice(it) for it in PARTS]
+        other = "".join(chance.choice(part) if chance.random() < 0.2 else it for it, part in zip(parts, PARTS))
+        one, keys = "".join(parts), [versions.order(it)[:-1] for it in ("".join(parts), other)]
+        looked((keys[0] < keys[1], keys[0] == keys[1])
+               == (version(one) < version(other), version(one) == version(other)), one, other)
 
 
 @pytest.mark.parametrize("one, other", [("abc", "ab"), ("ab", "abc"), ("abc", "axc"), ("abc", "acb"), ("abc", "xabc"),
