@@ -195,7 +195,9 @@ def test_a_signal_at_each_step_ends_it_behind_that_step_and_it_goes_on_or_back(m
     ended = machine.run(name)
     assert ended.returncode == -getattr(signal, f"SIG{number}"), ended
     assert machine.state() == BETWEEN[name][at] and machine.called() == COMMANDS[name][0][:at]
-    assert f"{name}: stopped" in ended.stdout and f"run {name} again, or {other(name)}" in ended.stdout or at == 1
+    assert f"{name}: stopped" in ended.stdout
+    # (behind the first step of index-take the index is served by nobody yet)
+    assert f"run {name} again, or {other(name)}" in ended.stdout or (name, at) == ("index-take", 1), ended
     machine.remove("stops")
     for again in (name, other(name), name):
         ended = machine.run(again)
