@@ -127,12 +127,19 @@ def test_eight_are_asked_at_once():
 
 
 def test_the_first_failure_ends_a_walk():
+    """No other item is waited for."""
+    over, answered = threading.Event(), []
+
     def fail(it):
         if it == 3:
             raise Stop(UNREACHED, "no 3")
+        over.wait(10)
+        answered.append(it)
         return it
     with pytest.raises(Stop, match="no 3"):
         list(side_by_side(fail, list(range(20))))
+    assert answered == []
+    over.set()
 
 
 def test_a_name_that_is_given_up_meanwhile_is_left_out():
