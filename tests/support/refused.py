@@ -226,7 +226,8 @@ class Refusing:
             if not self.refusals.was_refused():
                 break
             yield f"allocation {number} refused", ended
-        self.looked(number > 1 or not at, "allocations were refused")
+        # (the first number of another place is above 1)
+        self.looked(number > 1, "allocations were refused")
 
     def rows_behind(self, path: str):
         """What the rows of a copy of a database are behind `check`."""
