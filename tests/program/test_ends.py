@@ -9,7 +9,7 @@ import pytest
 from support.places import TOP
 from support.running import by_sqlite
 from support.serving import OFFICE, Index, Running, make_index, sha256
-from support.subcommands import WORKING, End, words_of
+from support.subcommands import ALL, WORKING, End, words_of
 from support.workload import line_of
 
 ACCEPTED = b'{"answer":"accepted"}\n'
@@ -108,7 +108,8 @@ def test_a_word_that_is_not_utf_8_is_refused(end):
 @pytest.mark.parametrize("word", ["--help", "help"])
 def test_help_names_the_subcommands(end, word):
     ended = end(word)
-    assert ended.status == 0 and b"apply" in ended.output and not ended.error, ended
+    assert ended.status == 0 and not ended.error, ended
+    assert {*ALL, "help"} == {*re.findall(r"^  ([a-z]+) ", ended.output.decode(), re.M)}, ended
 
 
 def test_the_version_names_the_kit_that_is_here(end):
