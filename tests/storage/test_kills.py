@@ -11,6 +11,7 @@ import pytest
 from support.judge import Judge, copy_index, seen_by_sqlite
 from support.old_version import make_old_version
 from support.running import kill_after, run, run_command
+from support.server.waits import wait_for
 from support.serving import OFFICE, Index
 from support.acknowledged import Acknowledged, report_rows
 from support.kills import Job, Killing
@@ -97,6 +98,8 @@ def test_serve_keeps_what_it_acknowledged(program, folder, chance, looked, histo
             looked(not asked.lost(index, before), "the files of the round before")
             asking = threading.Thread(target=asked.go_on, args=(index,))
             asking.start()
+            # (the first is killed behind an upload)
+            wait_for(lambda: known or asked.files or not asking.is_alive())
             time.sleep(chance.uniform(0, LONGEST))
             index.process.kill()
             asking.join()
@@ -105,6 +108,7 @@ def test_serve_keeps_what_it_acknowledged(program, folder, chance, looked, histo
         looked((checked.returncode, checked.stdout) == (0, b"0\n"), checked)
         looked(not asked.difference(report_rows(run(program, "report", "--db", path).stdout)))
         before = sorted({*asked.files} - known)
+    looked(asked.files, "files that were acknowledged")
     looked(not faults_by_sqlite(path, folder))
     with Index(program, path=path) as index:
         looked(not asked.lost(index), f"{len(asked.files)} files at the end")
