@@ -17,6 +17,8 @@ from support.serving import Index
 pytestmark = [pytest.mark.slow, pytest.mark.timeout(1800)]
 SIGNALS = (signal.SIGKILL, *(pytest.param(it, marks=pytest.mark.by_turns("walks"))
                              for it in (signal.SIGINT, signal.SIGTERM, signal.SIGHUP)))
+# of a run without an end; there are 40 and more
+FEWEST_STEPS = 30
 # columns that have a moment, which is that of the run
 MOMENTS = {"cases": "name, kind, candidate, contact, work, why, attempts, sent, profile, author, pages"}
 LEAVES = "user", "leave", "eve", "--to", "bob", "--yes"
@@ -67,6 +69,7 @@ def walked(runs, path, number, looked):
         yield step, first, rows_of(at, "SELECT user, token FROM users")
         step += 1
     print(f"{' '.join(runs.words[:2])}: {step - 1} steps by {number.name}")
+    looked(step > FEWEST_STEPS, step)
 
 
 @pytest.mark.parametrize("number", SIGNALS)
