@@ -184,3 +184,22 @@ def test_what_an_editor_leaves_is_not_in_a_package(tried):
     ended = tried.ended(*tried.words("package"))
     assert (ended.returncode, ended.stdout) == (0, f"{tried.out}/{NAME}\n")
     assert (tried.folder / "found").read_text() == ""
+
+
+def test_the_name_of_a_package_is_the_same_whatever_git_is_set_to(tried):
+    """Git shows as much of a commit as a clone needs: of a whole one more than of a shallow one."""
+    short = tried.ended("git", "-C", tried.top, "rev-parse", "--short=12", "HEAD").stdout.strip()
+    for much in ("5", "9"):
+        tried.git("config", "core.abbrev", much)
+        ended = tried.ended(*tried.words("package")[:4], "--out", tried.out)
+        assert ended.returncode == 0 and ended.stdout.endswith(f".{short}_amd64.deb\n"), ended
+
+
+def test_a_release_is_the_same_whatever_git_makes_of_the_ends_of_lines(tried):
+    (tried.folder / "gitconfig").write_text("[core]\n\tautocrlf = true\n")
+    for name, setting in (("one", {}), ("other", {"GIT_CONFIG_GLOBAL": f"{tried.folder}/gitconfig"})):
+        tried.out = f"{tried.folder}/{name}"
+        ended = tried.ended(*tried.words("release"), **setting)
+        assert ended.returncode == 0, ended
+    sums = [(tried.folder / name / "SHA256SUMS").read_text() for name in ("one", "other")]
+    assert sums[0] == sums[1]
