@@ -73,5 +73,11 @@ def test_the_page_names_the_number_of_copies_that_the_unit_keeps():
     assert f"raise the {command.split()[-1]} in `index-backup.service`" in page("RECOVERY")
 
 
+def test_an_upgrade_of_several_indexes_looks_at_copies_of_these():
+    """The one that they came from still lies where its backup finds it."""
+    before = page("INSTALL").partition(block("new="))[0].splitlines()[-3]
+    assert "`index-backup@8081` and `/var/backups/index/8081`" in before
+
+
 def test_nginx_on_a_machine_of_its_own_forgets_what_was_deleted():
     assert "systemctl enable --now index-uncache-follow.service" in page("TWO-MACHINES")
