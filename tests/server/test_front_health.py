@@ -8,6 +8,7 @@ import sys
 import pytest
 from support.library import front as library
 from support.places import SERVER
+from support.ports import free_port
 from support.running import run_command
 from support.server.expected import assert_ends
 from support.server.front import WORKERS, Front, has_ipv6, make_certificate
@@ -98,6 +99,7 @@ def test_several_nginx_are_asked_by_a_file_that_is_there(named, folder):
     ended = run_command([*HEALTH, "--front", f"{folder}/none.conf", "--at", "127.0.0.1", index])
     assert_ends(ended, 1, f"{folder}/none.conf", "127.0.0.1")
     assert_ends(run_command([*HEALTH, "--at", "127.0.0.1", index]), 2, "--at wants --front")
+    assert_ends(run_command([*HEALTH, "--front-only", index]), 2, "--front-only wants --front")
 
 
 def test_the_unit_for_several_nginx_asks_each_and_reaches_no_other():
@@ -127,7 +129,18 @@ def test_a_certificate_that_ends_soon_is_told(named):
     assert_ends(ended, 10)
     told = ended.stdout.strip()
     assert re.fullmatch(rf"index-health: nginx's certificate for {HOST} ends in 2 days, \w+ .* GMT", told), told
-    assert "--days 21 " in unit("index-certificate.service") and "=1d\n" in unit("index-certificate.timer")
+    assert "--days 21\n" in unit("index-certificate.service") and "=1d\n" in unit("index-certificate.timer")
+
+
+def test_the_certificate_of_an_nginx_without_an_index_beside_it_is_looked_at(named):
+    """As of two machines, behind nginx on a third; and on those two, which have no nginx, nothing is told."""
+    words = re.search(r"^ExecStart=\S+ (.*)$", unit("index-certificate.service"), re.M)[1].split()
+    conf = words.index("/etc/nginx/conf.d/packages.conf")
+    nobody = f"http://127.0.0.1:{free_port()}"
+    words[conf] = f"{named.folder}/conf.d/packages.conf"
+    assert_ends(run_command([*HEALTH, "--patience", "2", *words, nobody]), 10, "ends in 2 days")
+    words[conf] = f"{named.folder}/none.conf"
+    assert_ends(run_command([*HEALTH, "--patience", "2", *words, nobody]), 0)
 
 
 def test_readers_that_need_a_password_are_no_fault_and_an_answer_of_another_kind_is(named):
