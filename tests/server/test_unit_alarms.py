@@ -1,5 +1,8 @@
 """What index-alarms keeps from look to look."""
+import types
+
 import pytest
+from support.library import two_machines
 from support.programs import program_of
 
 ALARMS = program_of("index-alarms")
@@ -38,3 +41,14 @@ def test_restarts_are_whole_numbers_by_their_units(monkeypatch):
     monkeypatch.setattr(ALARMS, "shown", lambda unit, _: {"index.service": "2", "index@1.service": "0"}.get(unit, ""))
     found = ALARMS.restarts()
     assert found == {"index.service": 2, "index@1.service": 0} and {*map(type, found.values())} == {int}
+
+
+@pytest.mark.parametrize("is_shared, is_mounted, kinds", [
+    (True, False, []), (True, True, ["backup"]), (False, False, ["backup"]), (False, True, ["backup"])])
+def test_a_late_backup_is_told_where_the_index_is(monkeypatch, tmp_path, is_shared, is_mounted, kinds):
+    """The one of two machines that waits has no disk of the index, and so it makes no copies."""
+    monkeypatch.setattr(two_machines, "DROP_IN", str(tmp_path / ("" if is_shared else "none")))
+    monkeypatch.setattr(two_machines, "FOLDER", "/" if is_mounted else str(tmp_path))
+    words = types.SimpleNamespace(backups=str(tmp_path), changes=str(tmp_path / "changes.log"))
+    found = ALARMS.alarms(words, ALARMS.State(NOW - 9 * DAY, [], {}), look(NOW))
+    assert [it.kind for it in found] == kinds

@@ -56,6 +56,13 @@ def test_only_what_is_there_and_disabled_is_off_at_the_next_start(monkeypatch):
     assert {name for _, name in asked} == {"UnitFileState"}
 
 
+def test_what_index_take_starts_is_enabled_on_none_of_two_machines(monkeypatch):
+    calls(monkeypatch, units, "shown", "disabled")
+    monkeypatch.setattr(units, "is_shared", lambda: True)
+    assert units.not_enabled(["index.service"]) == ["index-alarms.timer", "index-certificate.timer",
+                                                    "index-uncache-follow.service"]
+
+
 def test_a_property_is_asked_of_systemd_and_what_is_enabled_is_told(monkeypatch):
     asked = calls(monkeypatch, units, "run", "disabled\n")
     assert units.shown("a.service", "UnitFileState") == "disabled"

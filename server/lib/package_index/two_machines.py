@@ -1,6 +1,7 @@
 """What two machines with one index share: a disk that DRBD copies, and the units that run on one of them."""
 from __future__ import annotations
 
+import os
 import re
 from contextlib import contextmanager
 from typing import Iterator, NamedTuple
@@ -10,6 +11,8 @@ from package_index.ends import Interrupted, Refused, held, say, tell
 
 FOLDER = "/var/lib/index"
 MOUNTS = "/proc/self/mounts"
+# by which index.service starts only where the disk is
+DROP_IN = "/etc/systemd/system/index.service.d/on-drbd.conf"
 # the service is last: a timer may start it again, and so may a backup that is under way
 UNITS = ["index-health.timer", "index-backup.timer", "index-health.service", "index-backup.service", "index.service"]
 NAME = re.compile(r"[A-Za-z0-9][A-Za-z0-9._-]*")
@@ -29,6 +32,16 @@ class Disk(NamedTuple):
     """The resource of DRBD, and its device."""
     resource: str
     device: str
+
+
+def is_shared() -> bool:
+    """Whether this is one of two machines, on which `index-take` starts the units, and no start of a machine."""
+    return os.path.exists(DROP_IN)
+
+
+def waits() -> bool:
+    """Whether this is the one of two machines that has no index now, and so makes no copies of it."""
+    return is_shared() and not os.path.ismount(FOLDER)
 
 
 def running_disk(resource: str) -> Disk:

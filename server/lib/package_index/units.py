@@ -7,6 +7,7 @@ from typing import List, Sequence
 
 from package_index.commands import run
 from package_index.ends import Refused
+from package_index.two_machines import UNITS, is_shared
 
 NOT_ENABLED = """These units are not enabled, so they stay off when the machine starts:
    systemctl enable --now {units}
@@ -54,8 +55,10 @@ def beside(unit: str) -> List[str]:
 
 
 def not_enabled(units: Sequence[str]) -> List[str]:
-    """Those of these units, and of the timers beside them, that are off once the machine starts again."""
-    return [it for unit in units for it in beside(unit) if shown(it, "UnitFileState") == "disabled"]
+    """Those of these units, and of the timers beside them, that are off once the machine starts again. Of two machines
+    none may start those that `index-take` starts."""
+    taken = UNITS if is_shared() else []
+    return [it for unit in units for it in beside(unit) if it not in taken and shown(it, "UnitFileState") == "disabled"]
 
 
 def enable(units: Sequence[str]) -> str:
