@@ -38,6 +38,16 @@ chmod 755 crates/index/out/index
 """
 # goes on until it is ended
 WAITS = "sleep 60 & echo $! > '{folder}/waits.new'; mv '{folder}/waits.new' '{folder}/waits'; wait"
+# the first thread hears no signal by itself, as if it came just before its wait
+DEAF = """
+import signal, subprocess, sys, threading
+sys.path.insert(0, sys.argv[1])
+from children import leave_at_signals, run
+threading.Thread(target=threading.Event().wait, daemon=True).start()
+leave_at_signals()
+signal.pthread_sigmask(signal.SIG_BLOCK, [signal.SIGHUP])
+run(["sh", sys.argv[2]], stdout=subprocess.PIPE)
+"""
 # a small disk with a package of before; what is there at the end is printed last
 DISK = """mount -t tmpfs -o size=64k none "$1" && echo before > "$1/$2" || exit 3
 folder=$1 name=$2; shift 2; "$@"; echo "status $?"; ls -A "$folder"; cat "$folder/$name" """
@@ -130,6 +140,14 @@ def test_what_is_interrupted_ends_with_all_that_it_started_and_leaves_nothing(tr
         said, _ = command.communicate(timeout=60)
     assert (command.returncode, said) == (128 + number, "") and wait_for(lambda: not tried.is_waiting(), 10)
     assert tried.left() == [] and not (os.path.exists(tried.out) and os.listdir(tried.out))
+
+
+def test_a_signal_that_comes_just_before_a_wait_is_heard(tried):
+    tried.does("acts", WAITS)
+    with tried.waiting(sys.executable, "-c", DEAF, f"{tried.top}/tools/lib", f"{tried.folder}/acts") as command:
+        command.send_signal(signal.SIGHUP)
+        said, _ = command.communicate(timeout=30)
+    assert (command.returncode, said) == (128 + signal.SIGHUP, "") and wait_for(lambda: not tried.is_waiting(), 10)
 
 
 def test_what_nohup_began_goes_on_after_a_hang_up(tried):

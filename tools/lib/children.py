@@ -4,6 +4,7 @@ import shutil
 import signal
 import subprocess
 import sys
+from contextlib import suppress
 
 
 def ends():
@@ -25,11 +26,19 @@ def run(words, **more):
     """How a command ended. All that it started ends if this process does."""
     with subprocess.Popen(words, stdin=subprocess.DEVNULL, text=True, start_new_session=True, **more) as child:
         try:
-            said, _ = child.communicate()
+            said = printed_by(child)
         except BaseException:
             os.killpg(child.pid, signal.SIGTERM)
             raise
     return subprocess.CompletedProcess(words, child.returncode, said)
+
+
+def printed_by(child):
+    """What a command printed, once it has ended. A signal that comes just before a wait is heard behind it, so each
+    wait is short."""
+    while True:
+        with suppress(subprocess.TimeoutExpired):
+            return child.communicate(timeout=0.5)[0]
 
 
 def why(end):
