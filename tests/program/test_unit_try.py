@@ -12,6 +12,7 @@ from pathlib import Path
 
 import pytest
 from support.places import TOP
+from support.running import goes_on
 from support.server.waits import wait_for
 
 # it serves nobody, so a client goes on to ask
@@ -36,14 +37,6 @@ def clone(tmp_path: Path) -> Path:
     return made
 
 
-def goes_on(pid: str) -> bool:
-    """Whether a process does. One that has ended may stay in the table, without words."""
-    try:
-        return bool(Path(f"/proc/{pid.strip()}/cmdline").read_bytes())
-    except OSError:
-        return False
-
-
 @pytest.mark.parametrize("name", ["INT", "TERM", "HUP"])
 def test_a_trial_that_is_ended_serves_no_longer(clone, name):
     words, serves = [sys.executable, f"{clone}/tools/try"], clone.parent / "serves"
@@ -51,7 +44,7 @@ def test_a_trial_that_is_ended_serves_no_longer(clone, name):
         assert wait_for(lambda: serves.exists() and serves.read_text(), 60)
         command.send_signal(signal.Signals[f"SIG{name}"])
         _, wrong = command.communicate(timeout=60)
-    assert wait_for(lambda: not goes_on(serves.read_text()), 10)
+    assert wait_for(lambda: not goes_on(int(serves.read_text())), 10)
     assert command.returncode == 130 and wrong.strip().startswith("interrupted: what is built is kept")
 
 

@@ -79,5 +79,5 @@ def test_an_upgrade_of_several_indexes_looks_at_copies_of_these():
     assert "`index-backup@8081` and `/var/backups/index/8081`" in before
 
 
-def test_nginx_on_a_machine_of_its_own_forgets_what_was_deleted_and_minds_its_certificate():
+def test_nginx_on_a_machine_of_its_own_is_to_forget_what_was_deleted_and_to_mind_its_certificate():
     assert "systemctl enable --now index-certificate.timer index-uncache-follow.service" in page("TWO-MACHINES")

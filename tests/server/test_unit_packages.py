@@ -15,7 +15,7 @@ from subprocess import CompletedProcess
 
 import pytest
 from support.needed import want_command
-from support.running import run_command
+from support.running import goes_on, run_command
 from support.server.released import TAG, VERSION, Repository
 from support.server.waits import wait_for
 
@@ -94,11 +94,8 @@ class Tried(Repository):
                 command.kill()
 
     def is_waiting(self) -> bool:
-        """Whether that goes on. One that has ended may stay in the table, without words."""
-        try:
-            return bool(Path(f"/proc/{(self.folder / 'waits').read_text().strip()}/cmdline").read_bytes())
-        except OSError:
-            return False
+        """Whether that goes on."""
+        return goes_on(int((self.folder / "waits").read_text()))
 
     def left(self) -> list[str]:
         return os.listdir(f"{self.folder}/tmp")

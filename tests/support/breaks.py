@@ -20,6 +20,7 @@ import glob
 import os
 import re
 import symtable
+from collections.abc import Iterator
 from dataclasses import dataclass, field
 
 from support.inner_runs import Ended, copy_rooms, run_tests
@@ -103,13 +104,18 @@ class Break:
         return run_tests(f"{folder}/copy", self.caught, "--program", made, *words, seconds=seconds)
 
 
+def tables_of(table: symtable.SymbolTable) -> Iterator[symtable.SymbolTable]:
+    """The table of a text, and those of the functions and classes in it."""
+    yield table
+    for it in table.get_children():
+        yield from tables_of(it)
+
+
 def loose_names(text: str) -> set:
     """The names that a Python text reads, and that neither it nor Python makes."""
-    tables = [symtable.symtable(text, "text", "exec")]
-    for it in tables:
-        tables += it.get_children()
-    symbols = [(it, each) for it in tables for each in it.get_symbols()]
-    made = {each.get_name() for it, each in symbols if (it is tables[0] or each.is_declared_global())
+    top = symtable.symtable(text, "text", "exec")
+    symbols = [(it, each) for it in tables_of(top) for each in it.get_symbols()]
+    made = {each.get_name() for it, each in symbols if (it is top or each.is_declared_global())
             and (each.is_assigned() or each.is_imported())}
     read = {each.get_name() for _, each in symbols if each.is_global() and each.is_referenced()}
     return read - made - {*dir(builtins)}

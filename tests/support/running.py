@@ -81,6 +81,15 @@ def kill_after(program, path, lines):
     return path
 
 
+def goes_on(pid: int) -> bool:
+    """Whether a process does. One that has ended may stay in the table, without words."""
+    try:
+        with open(f"/proc/{pid}/cmdline", "rb") as words:
+            return words.read() != b""
+    except OSError:
+        return False
+
+
 def by_sqlite(path, *statements):
     """Runs statements on a database by Python's sqlite3, and returns its path."""
     with closing(sqlite3.connect(path)) as database:

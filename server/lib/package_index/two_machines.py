@@ -39,7 +39,7 @@ def is_shared() -> bool:
     return os.path.exists(DROP_IN)
 
 
-def waits() -> bool:
+def index_is_elsewhere() -> bool:
     """Whether this is the one of two machines that has no index now, and so makes no copies of it."""
     return is_shared() and not os.path.ismount(FOLDER)
 
