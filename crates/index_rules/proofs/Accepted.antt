@@ -14,7 +14,7 @@ abbrev pub NonePasses : {A : Type 0} → (A → Bool) → List A → Type 0
 NonePasses p [] = Unit {0}
 NonePasses p (x ∷ xs) = (p x ≡ false) × NonePasses p xs
 
-NonePasses-find : {A : Type 0} (p : A → Bool) (xs : List A) → find p xs ≡ None → NonePasses p xs
+pub NonePasses-find : {A : Type 0} (p : A → Bool) (xs : List A) → find p xs ≡ None → NonePasses p xs
 NonePasses-find p [] e = tt
 NonePasses-find p (x ∷ xs) e = elim (p x) as (λ b. cond b (Some x) (find p xs) ≡ None → (b ≡ false) × NonePasses p xs) [
   | true ↦ λ e. cc
@@ -26,7 +26,7 @@ abbrev pub is_among : Refusal → List Refusal → Bool
 is_among refusal [] = false
 is_among refusal (one ∷ others) = (number_of refusal == number_of one) || is_among refusal others
 
-NonePasses-among : (p : Refusal → Bool) (xs : List Refusal) → NonePasses p xs → (refusal : Refusal) → is_among refusal xs ≡ true → p refusal ≡ false
+pub NonePasses-among : (p : Refusal → Bool) (xs : List Refusal) → NonePasses p xs → (refusal : Refusal) → is_among refusal xs ≡ true → p refusal ≡ false
 NonePasses-among p [] none refusal there = absurd (false≢true there)
 NonePasses-among p (x ∷ xs) none refusal there = elim (cases_Bool (number_of refusal == number_of x)) [
   | inl e ↦ ap p (number_of-is refusal x e) ∙ none.0

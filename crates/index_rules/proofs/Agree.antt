@@ -40,7 +40,7 @@ find-misses p (y ∷ xs) x e h = elim (p y) as (λ b. p y ≡ b → cond b (Some
 ] refl e
 
 -- there is one that passes, and only one
-find-one : (p : Bytes → Bool) (xs : List Bytes) (x : Bytes) → list_any (same x) xs ≡ true → p x ≡ true → ((y : Bytes) → p y ≡ true → y ≡ x) → find p xs ≡ Some x
+pub find-one : (p : Bytes → Bool) (xs : List Bytes) (x : Bytes) → list_any (same x) xs ≡ true → p x ≡ true → ((y : Bytes) → p y ≡ true → y ≡ x) → find p xs ≡ Some x
 find-one p [] x h t only = absurd (false≢true h)
 find-one p (y ∷ xs) x h t only = elim (p y) as (λ b. p y ≡ b → cond b (Some y) (find p xs) ≡ Some x) [
   | true ↦ λ e. ap Some (only y e)
@@ -68,11 +68,11 @@ listed_by (SetToken user token) users u before listed is = listed (by (is_read_a
 listed_by request users u before listed is = listed is
 
 -- each user was added
-users_listed : (h : History) (u : Bytes) → is_some (user_after h u) ≡ true → list_any (same u) (users_after h) ≡ true
+pub users_listed : (h : History) (u : Bytes) → is_some (user_after h u) ≡ true → list_any (same u) (users_after h) ≡ true
 users_listed (begins user token) u is = elim (same u user) as (λ b. is_some (cond b (Some (first_record token)) None) ≡ true → (b || false) ≡ true) [ true ↦ λ _. refl | false ↦ λ e. e ] is
 users_listed (more h e) u is = listed_by e.call.request (users_after h) u (user_after h u) (users_listed h u) is
 
-bears-some : (token : Bytes) (user : Option UserRecord) → bears (Some token) user ≡ true → (x : UserRecord) × (user ≡ Some x) × (same token x.token ≡ true)
+pub bears-some : (token : Bytes) (user : Option UserRecord) → bears (Some token) user ≡ true → (x : UserRecord) × (user ≡ Some x) × (same token x.token ≡ true)
 bears-some token None bears = absurd (false≢true bears)
 bears-some token (Some x) bears = (x, refl, bears)
 

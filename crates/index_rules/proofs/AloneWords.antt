@@ -27,7 +27,7 @@ use Rattle.index_rules.proofs.KeyLemmas.{same-refl, cases_same}
 -- ---- what an entry that is left out leaves alone
 
 module _ (n : Bytes) where
-  user_left : (r : Request) (u : Bytes) → is_kept r n ≡ false → (before : Option UserRecord) → user_by r u before ≡ before
+  pub user_left : (r : Request) (u : Bytes) → is_kept r n ≡ false → (before : Option UserRecord) → user_by r u before ≡ before
   user_left (AddUser user office token) u other before = absurd (false≢true (sym other))
   user_left (SetToken user token) u other before = absurd (false≢true (sym other))
   user_left r u other before = refl
@@ -36,23 +36,23 @@ module _ (n : Bytes) where
   added_left (AddUser user office token) other before = absurd (false≢true (sym other))
   added_left r other before = refl
 
-  state_left : (r : Request) → is_kept r n ≡ false → (before : State) → state_by r n before ≡ before
+  pub state_left : (r : Request) → is_kept r n ≡ false → (before : State) → state_by r n before ≡ before
   state_left (Claim name) other before = ap (λ b. cond b Held before) other
   state_left (Relinquish name) other before = ap (λ b. cond b Free before) other
   state_left (Prohibit name) other before = ap (λ b. cond b Prohibited before) other
   state_left (Allow name) other before = ap (λ b. cond b Free before) other
   state_left r other before = refl
 
-  shown_left : (r : Request) → is_kept r n ≡ false → (before : Bytes) → shown_by r n before ≡ before
+  pub shown_left : (r : Request) → is_kept r n ≡ false → (before : Bytes) → shown_by r n before ≡ before
   shown_left (Claim name) other before = ap (λ b. cond b name before) other
   shown_left r other before = refl
 
-  quota_left : (r : Request) → is_kept r n ≡ false → (before : ℕ) → quota_by r n before ≡ before
+  pub quota_left : (r : Request) → is_kept r n ≡ false → (before : ℕ) → quota_by r n before ≡ before
   quota_left (Claim name) other before = ap (λ b. cond b first_quota before) other
   quota_left (SetQuota name quota) other before = ap (λ b. cond b quota before) other
   quota_left r other before = refl
 
-  uploads_left : (r : Request) (at : ℕ) → is_kept r n ≡ false → (before : List ℕ) → uploads_by r at n before ≡ before
+  pub uploads_left : (r : Request) (at : ℕ) → is_kept r n ≡ false → (before : List ℕ) → uploads_by r at n before ≡ before
   uploads_left (Claim name) at other before = ap (λ b. cond b [] before) other
   uploads_left (Upload file sha256 body requires) at other before = ap (λ b. cond b (at ∷ before) before) other
   uploads_left r at other before = refl
@@ -72,7 +72,7 @@ module _ (n : Bytes) where
   owners_left (CloseCase name) other = refl
   owners_left r other = other
 
-  case_left : (r : Request) (actor : Bytes) (at : ℕ) → is_kept r n ≡ false → (before : Option Case) → case_by r actor at n before ≡ before
+  pub case_left : (r : Request) (actor : Bytes) (at : ℕ) → is_kept r n ≡ false → (before : Option Case) → case_by r actor at n before ≡ before
   case_left (OpenCase name kind contact work why) actor at other before =
       ap (λ b. cond b (Some (record { kind = kind; candidate = actor; contact = contact; work = work; why = why; opened = at; attempts = [] })) before) other
   case_left (RecordAttempt name means sent) actor at other before = ap (λ b. cond b (option_map (with_attempt (attempt_of means sent at)) before) before) other
@@ -81,14 +81,14 @@ module _ (n : Bytes) where
   case_left (Prohibit name) actor at other before = ap (λ b. cond b None before) other
   case_left r actor at other before = ap (λ b. cond b None before) (owners_left r other)
 
-  given_left : (r : Request) (actor : Bytes) (candidate : Option Bytes) (u : Bytes) → is_kept r n ≡ false → (before : Bool) → is_given_by r actor candidate n u before ≡ before
+  pub given_left : (r : Request) (actor : Bytes) (candidate : Option Bytes) (u : Bytes) → is_kept r n ≡ false → (before : Bool) → is_given_by r actor candidate n u before ≡ before
   given_left (Claim name) actor candidate u other before = ap (λ b. cond b (same u actor) before) other
   given_left (AddOwner name user) actor candidate u other before = ap (λ b. cond (b && is_read_as (read_user user) u) true before) other
   given_left (RemoveOwner name user) actor candidate u other before = ap (λ b. cond (b && is_read_as (read_user user) u) false before) other
   given_left (Transfer name quiet) actor candidate u other before = ap (λ b. cond b (is_read_as candidate u) before) other
   given_left r actor candidate u other before = refl
 
-  yanked_left : (r : Request) (release : Bytes) → is_kept r n ≡ false → (before : Option Bytes) → reason_by r n release before ≡ before
+  pub yanked_left : (r : Request) (release : Bytes) → is_kept r n ≡ false → (before : Option Bytes) → reason_by r n release before ≡ before
   yanked_left (Claim name) release other before = ap (λ b. cond b None before) other
   yanked_left (Yank name yanked reason) release other before = ap (λ b. cond (b && is_read_as (read_release yanked) release) (Some reason) before) other
   yanked_left (Unyank name yanked) release other before = ap (λ b. cond (b && is_read_as (read_release yanked) release) None before) other
@@ -96,14 +96,14 @@ module _ (n : Bytes) where
 
   module _ (f : Bytes) (project : project_of f ≡ n) where
     -- a file of the name is none that another name's request speaks of
-    other_file : (read : Option Bytes) → is_read_as (option_map project_of read) n ≡ false → is_read_as read f ≡ false
+    pub other_file : (read : Option Bytes) → is_read_as (option_map project_of read) n ≡ false → is_read_as read f ≡ false
     other_file None other = other
     other_file (Some g) other = elim (cases_same f g) [
       | inl is ↦ absurd (false≢true (sym other ∙ ap (same n) (ap project_of (sym is) ∙ project) ∙ same-refl n))
       | inr apart ↦ apart
     ]
 
-    known_left : (r : Request) → is_kept r n ≡ false → (before : Option (Bytes × ℕ)) → first_upload_by r f before ≡ before
+    pub known_left : (r : Request) → is_kept r n ≡ false → (before : Option (Bytes × ℕ)) → first_upload_by r f before ≡ before
     known_left (Upload file sha256 body requires) other before =
         ap (λ b. option_or before (cond b (Some (or_empty (read_digest sha256), length body)) None)) (other_file (read_file file) other) ∙ or_none before
       where
@@ -112,18 +112,18 @@ module _ (n : Bytes) where
         or_none (Some first) = refl
     known_left r other before = refl
 
-    undeleted_left : (r : Request) → is_kept r n ≡ false → (before : Bool) → is_undeleted_by r f before ≡ before
+    pub undeleted_left : (r : Request) → is_kept r n ≡ false → (before : Bool) → is_undeleted_by r f before ≡ before
     undeleted_left (Upload file sha256 body requires) other before = ap (λ b. cond b true before) (other_file (read_file file) other)
     undeleted_left (Delete file) other before = ap (λ b. cond b false before) (other_file (read_file file) other)
     undeleted_left (BanFile file) other before = ap (λ b. cond b false before) (other_file (read_file file) other)
     undeleted_left (Prohibit name) other before = ap (λ b. cond b false before) (ap (is_read_as (read_name name)) project ∙ other)
     undeleted_left r other before = refl
 
-    banned_left : (r : Request) → is_kept r n ≡ false → (before : Bool) → is_banned_by r f before ≡ before
+    pub banned_left : (r : Request) → is_kept r n ≡ false → (before : Bool) → is_banned_by r f before ≡ before
     banned_left (BanFile file) other before = ap (λ b. cond b true before) (other_file (read_file file) other)
     banned_left r other before = refl
 
-    requires_left : (r : Request) → is_kept r n ≡ false → (before : Bytes) → requires_by r f before ≡ before
+    pub requires_left : (r : Request) → is_kept r n ≡ false → (before : Bytes) → requires_by r f before ≡ before
     requires_left (Upload file sha256 body requires) other before = ap (λ b. cond b requires before) (other_file (read_file file) other)
     requires_left r other before = refl
 

@@ -49,7 +49,7 @@ known_now T h files at token (Upload file declared body requires) f first accept
 known_now T h files at token r f first accepts is = absurd is
 
 -- the digest and the size of each upload's body are known
-known_upload : (h : History) → IsLegal h → (f : Bytes) (first : Bytes × ℕ) → HasUpload h f first → first_upload_after h f ≡ Some first
+pub known_upload : (h : History) → IsLegal h → (f : Bytes) (first : Bytes × ℕ) → HasUpload h f first → first_upload_after h f ≡ Some first
 known_upload (begins user token) legal f first is = absurd is
 known_upload (more h e) legal f first (inl is) =
     let made = legal_made h legal.0 in
@@ -66,7 +66,7 @@ is_declared : (declared : Option Bytes) (body : Bytes) → is_none declared ≡ 
 is_declared None body unread is = absurd (true≢false unread)
 is_declared (Some digest) body unread is = ap Some (sym is)
 
-declares_body : (h : History) (at : ℕ) (token : Bytes) (r : Request) → verdict_after h (record { at = at; token = token; request = r }) ≡ Accept → DeclaresBody r
+pub declares_body : (h : History) (at : ℕ) (token : Bytes) (r : Request) → verdict_after h (record { at = at; token = token; request = r }) ≡ Accept → DeclaresBody r
 declares_body h at token (Upload file declared body requires) accepts =
     let c : Call = record { at = at; token = token; request = Upload file declared body requires } in
     let all = accepted c (facts_after h c) accepts in

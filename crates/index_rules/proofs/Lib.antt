@@ -40,4 +40,12 @@ pub mod MoveLemmas
 pub mod TransferLemmas
 pub mod AloneWords
 pub mod AloneLemmas
+pub mod RightLemmas
 pub mod WalkLemmas
+pub mod RetryWords
+pub mod RetryFiles
+pub mod RetryNames
+pub mod RetryLemmas
+pub mod RetryUsers
+pub mod LookLemmas
+pub mod WrongRights

@@ -152,7 +152,7 @@ state_with_owners (RemoveOwner name user) n other = refl
 state_with_owners (Transfer name quiet) n other = refl
 state_with_owners r n other = other
 
-owners_kept : (r : Request) (actor : Bytes) (candidate : Option Bytes) (n u : Bytes) (state : State) (given : Bool) → may_move_owners r n ≡ false
+pub owners_kept : (r : Request) (actor : Bytes) (candidate : Option Bytes) (n u : Bytes) (state : State) (given : Bool) → may_move_owners r n ≡ false
     → (is_held_now (state_by r n state) && is_given_by r actor candidate n u given) ≡ (is_held_now state && given)
 owners_kept r actor candidate n u state given other = λ i. is_held_now (state_kept r n state (state_with_owners r n other) i) && given_kept r actor candidate n u given other i
 

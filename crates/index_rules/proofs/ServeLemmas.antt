@@ -17,12 +17,12 @@ use Rattle.index_rules.proofs.OwnerLists.{same-is}
 use Rattle.index_rules.proofs.BindLemmas.{binds_files}
 
 -- what was read is the text
-is_read : (read : Option Bytes) (f : Bytes) → is_read_as read f ≡ true → read ≡ Some f
+pub is_read : (read : Option Bytes) (f : Bytes) → is_read_as read f ≡ true → read ≡ Some f
 is_read None f is = absurd (true≢false (sym is))
 is_read (Some x) f is = ap Some (sym (same-is f x is))
 
 -- what was taken away isn't there
-still : (b before : Bool) → cond b false before ≡ true → before ≡ true
+pub still : (b before : Bool) → cond b false before ≡ true → before ≡ true
 still true before is = absurd (true≢false (sym is))
 still false before is = is
 

@@ -29,3 +29,7 @@ pub mod PastCases
 pub mod StandsFor
 pub mod Legal
 pub mod Laws
+pub mod Rights
+pub mod Retries
+pub mod Looks
+pub mod Refuted

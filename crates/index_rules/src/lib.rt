@@ -14,6 +14,7 @@ mod project;
 mod reading;
 mod records;
 mod rows;
+mod standing;
 mod user;
 mod view;
 
@@ -29,5 +30,6 @@ pub use project::Project;
 pub use reading::read_token;
 pub use records::{CaseRecord, FileRecord, NameRecord, UserRecord};
 pub use rows::{FileRow, NameRow, Taker, WalkEnd};
+pub use standing::{HeldName, Standing};
 pub use user::{UserFault, UserId};
 pub use view::{Caller, FilesSeen, NameSeen, Owners, UsersSeen, View};
