@@ -7,7 +7,7 @@ use Rattle.std.specs.List.{All, Contains}
 use Rattle.index_pages.specs.declared.served.Served.{Served}
 use Rattle.index_rules.specs.Maps.{Bytes, same}
 use Rattle.index_rules.specs.Tables.{Tables}
-use Rattle.index_desk.specs.Pages.{text_in}
+use Rattle.index_caching.specs.Pages.{text_in}
 use Rattle.index_cache.specs.declared.entries.CachedBody.{CachedBody}
 use Rattle.index_cache.specs.declared.entries.CachedPage.{CachedPage}
 

@@ -13,7 +13,7 @@ use Rattle.index_rules.specs.declared.answer.Fault.TheVariants as fault
 use Rattle.index_rules.specs.declared.books.Books.{Ghosts}
 use Rattle.index_rules.specs.declared.rows.WalkEnd.{WalkEnd}
 use Rattle.index_rules.specs.declared.rows.WalkEnd.TheVariants as walk_end
-use Rattle.index_desk.specs.Pages.{text_in}
+use Rattle.index_caching.specs.Pages.{text_in}
 use Rattle.index_cache.specs.Entries.{HasNoPage, cached_of}
 use Rattle.index_cache.specs.declared.cache.Cache.{Cache}
 

@@ -5,7 +5,7 @@ ghost use Rattle.std.specs.List.{All};
 ghost use Rattle.index_cache.specs.Entries.{AreNewest, IsCachedBody, IsCachedPage, body_bytes, page_bytes};
 ghost use Rattle.index_cache.specs.Spared.{spares_body};
 ghost use Rattle.std.specs.FinMap.{get};
-ghost use Rattle.index_desk.specs.Pages.{project_of_page};
+ghost use Rattle.index_caching.specs.Pages.{project_of_page};
 ghost use Rattle.index_rules.specs.Facts.{Sees};
 ghost use Rattle.index_rules.specs.Results.{Returns, ReturnsItems};
 ghost use Rattle.index_rules.specs.TableRows.{file_rows_in, held_rows_in, name_rows_in};
@@ -17,7 +17,7 @@ use crate::entries::{
     CachedBody, CachedPage, body_bytes, body_of, is_out_of_memory, is_walk_out_of_memory,
     keep_newest, keep_spared, page_of, project_of_page,
 };
-use index_desk::{CachesAnswers, PageKey};
+use index_caching::{CachesAnswers, PageKey};
 use index_digest::Sealed;
 use index_names::{FileName, NormalName};
 use index_pages::Served;

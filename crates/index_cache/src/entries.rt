@@ -1,11 +1,11 @@
 //! The entries of the cache: files and pages.
 ghost use Rattle.std.specs.Prelude.{◌≡◌, ◌↔◌, ◌≤◌, ◌<◌, ◌+◌, Err, IfOk, IfSome, IsTrue, None};
 ghost use Rattle.std.specs.Prelude.{drop, filter, length, option_copied, vec_len};
-ghost use Rattle.index_desk.specs.Pages.{project_of_page};
+ghost use Rattle.index_caching.specs.Pages.{project_of_page};
 ghost use Rattle.index_cache.specs.Entries.{AreLeft, AreNewest, HasNoPage, IsBodyAmong, IsPageAmong, body_bytes, cached_of};
 ghost use Rattle.index_cache.specs.Spared.{spares_file, spares_body};
 
-use index_desk::PageKey;
+use index_caching::PageKey;
 use index_digest::Sealed;
 use index_names::{FileName, NormalName};
 use index_pages::Served;

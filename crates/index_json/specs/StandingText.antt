@@ -12,9 +12,9 @@ use Rattle.index_retention.specs.declared.attempts.CaseKind.TheVariants.{Continu
 use Rattle.index_retention.specs.declared.attempts.CaseState.{CaseState}
 use Rattle.index_rules.specs.declared.records.CaseRecord.{CaseRecord}
 use Rattle.index_rules.specs.Projects.{Project}
-use Rattle.index_desk.specs.declared.standing.HeldName.{HeldName}
-use Rattle.index_desk.specs.declared.standing.Standing.{Standing}
-use Rattle.index_desk.specs.declared.standing.Standing.TheVariants as standing
+use Rattle.index_rules.specs.declared.standing.HeldName.{HeldName}
+use Rattle.index_rules.specs.declared.standing.Standing.{Standing}
+use Rattle.index_rules.specs.declared.standing.Standing.TheVariants as standing
 
 -- a whole number
 abbrev pub whole : ℕ → Data

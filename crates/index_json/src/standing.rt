@@ -8,10 +8,9 @@ ghost use Rattle.serde_json.specs.View.{members_view, view};
 ghost use Rattle.index_rules.specs.Memory.{OkOrNoMemory};
 ghost use Rattle.index_json.specs.StandingText.{PutsMembers, case_value as case_value_lem, case_texts_put, case_put, held_put, kind_text as kind_text_lem, means_put, name_put, open_case_value as open_case_value_lem, project_put, standing_put, standing_text_of, standing_value as standing_value_lem, text_array, times_put};
 
-use index_desk::{HeldName, Standing};
 use index_names::NormalName;
 use index_retention::{CaseKind, CaseState};
-use index_rules::{CaseRecord, Fault, Project, UserId};
+use index_rules::{CaseRecord, Fault, HeldName, Project, Standing, UserId};
 use serde_json::{Map, Value, put};
 use std::alloc::{AllocError, Global};
 

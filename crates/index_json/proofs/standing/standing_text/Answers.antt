@@ -4,8 +4,8 @@ use Rattle.serde_json.specs.Data.{string}
 use Rattle.serde_json.specs.View.{items_of}
 use Rattle.serde_json.specs.Written.{has_float, items_have_float}
 use Rattle.index_rules.specs.declared.records.CaseRecord.{CaseRecord}
-use Rattle.index_desk.specs.declared.standing.Standing.{Standing}
-use Rattle.index_desk.specs.declared.standing.Standing.TheVariants as standing
+use Rattle.index_rules.specs.declared.standing.Standing.{Standing}
+use Rattle.index_rules.specs.declared.standing.Standing.TheVariants as standing
 use Rattle.index_json.specs.StandingText.{case_value, moment_value, standing_text_of, standing_value}
 use Rattle.index_json.proofs.standing.standing_text.Goals as goal
 
