@@ -11,7 +11,8 @@ use Rattle.index_rules.specs.History.{History}
 use Rattle.index_rules.specs.StandsFor.{StandsFor}
 use Rattle.index_rules.specs.Legal.{IsLegal, with_call}
 use Rattle.index_rules.proofs.StandsOn.{CarriesOn-answer}
-use Rattle.index_desk.specs.Crashes.{AnswerLeavesTables, CallsLeaveHistory, CallsLeaveTables, IsWithCall, Lasts, LastsAll}
+use Rattle.index_desk.specs.Crashes.{AnswerLeavesTables, CallsLeave, HasCall, Lasts, LastsAll}
+use Rattle.index_desk.specs.Rules.{by_history, by_tables}
 
 -- more may be left if each of its two parts is more
 pub Leaves-weaker : (before before' with_call with_call' : Tables → Type 0) → ((T : Tables) → before T → before' T) → ((T : Tables) → with_call T → with_call' T) → (answer : Answer) (T : Tables) → AnswerLeavesTables before with_call answer T → AnswerLeavesTables before' with_call' answer T
@@ -49,71 +50,71 @@ Lasts-earlier (Fault fault) first before after f lasts = tt
 -- ---- calls in a row, and one more
 
 -- that was not accepted
-pub CallsLeaveTables-more : (T : Tables) (calls : List Call) (answers : List Answer) (call : Call) (answer : Answer) (T' : Tables) → answer ≢ Accepted → CallsLeaveTables T calls answers T'
-    → CallsLeaveTables T (calls ++ call ∷ []) (answers ++ answer ∷ []) T'
-CallsLeaveTables-more T [] [] call Accepted T' other left = absurd (other refl)
-CallsLeaveTables-more T [] [] call Already T' other left = left
-CallsLeaveTables-more T [] [] call (Refused refusal) T' other left = left
-CallsLeaveTables-more T [] [] call (Fault fault) T' other left = inl left
-CallsLeaveTables-more T [] (b ∷ answers) call answer T' other left = absurd left
-CallsLeaveTables-more T (d ∷ calls) [] call answer T' other left = absurd left
-CallsLeaveTables-more T (d ∷ calls) (Accepted ∷ answers) call answer T' other left = (left.0, CallsLeaveTables-more (tables_after T d Accepted) calls answers call answer T' other left.1)
-CallsLeaveTables-more T (d ∷ calls) (Already ∷ answers) call answer T' other left = CallsLeaveTables-more T calls answers call answer T' other left
-CallsLeaveTables-more T (d ∷ calls) (Refused refusal ∷ answers) call answer T' other left = CallsLeaveTables-more T calls answers call answer T' other left
-CallsLeaveTables-more T (d ∷ calls) (Fault fault ∷ answers) call answer T' other left = elim left [
-  | inl rest ↦ inl (CallsLeaveTables-more T calls answers call answer T' other rest)
-  | inr it ↦ inr ((λ found. elim (Contains-push_cases answers answer Accepted found) [ inl there ↦ it.0 there | inr this ↦ other this ]), it.1, it.2)
+pub CallsLeave-more : (T : Tables) (calls : List Call) (answers : List Answer) (call : Call) (answer : Answer) (T' : Tables) → answer ≢ Accepted → CallsLeave by_tables T calls answers T'
+    → CallsLeave by_tables T (calls ++ call ∷ []) (answers ++ answer ∷ []) T'
+CallsLeave-more T [] [] call Accepted T' other left = absurd (other refl)
+CallsLeave-more T [] [] call Already T' other left = left
+CallsLeave-more T [] [] call (Refused refusal) T' other left = left
+CallsLeave-more T [] [] call (Fault fault) T' other left = inl left
+CallsLeave-more T [] (b ∷ answers) call answer T' other left = absurd left
+CallsLeave-more T (d ∷ calls) [] call answer T' other left = absurd left
+CallsLeave-more T (d ∷ calls) (Accepted ∷ answers) call answer T' other left = (left.0, CallsLeave-more (tables_after T d Accepted) calls answers call answer T' other left.1)
+CallsLeave-more T (d ∷ calls) (Already ∷ answers) call answer T' other left = CallsLeave-more T calls answers call answer T' other left
+CallsLeave-more T (d ∷ calls) (Refused refusal ∷ answers) call answer T' other left = CallsLeave-more T calls answers call answer T' other left
+CallsLeave-more T (d ∷ calls) (Fault fault ∷ answers) call answer T' other left = elim left [
+  | inl rest ↦ inl (CallsLeave-more T calls answers call answer T' other rest)
+  | inr it ↦ inr ((λ found. elim (Contains-push_cases answers answer Accepted found) [ inl there ↦ it.0 there | inr this ↦ other this ]), it.1)
 ]
 
 -- that was accepted
-pub CallsLeaveTables-accepted : (T : Tables) (calls : List Call) (answers : List Answer) (between : Tables) (call : Call) (T' : Tables) → Runs T calls answers between → IsWithCall between call T'
-    → CallsLeaveTables T (calls ++ call ∷ []) (answers ++ Accepted ∷ []) T'
-CallsLeaveTables-accepted T [] [] between call T' run is = subst (λ x. IsWithCall x call T') run is
-CallsLeaveTables-accepted T [] (b ∷ answers) between call T' run is = absurd run
-CallsLeaveTables-accepted T (d ∷ calls) [] between call T' run is = absurd run
-CallsLeaveTables-accepted T (d ∷ calls) (Accepted ∷ answers) between call T' run is = (run.0, CallsLeaveTables-accepted (tables_after T d Accepted) calls answers between call T' run.1 is)
-CallsLeaveTables-accepted T (d ∷ calls) (Already ∷ answers) between call T' run is = CallsLeaveTables-accepted T calls answers between call T' run.1 is
-CallsLeaveTables-accepted T (d ∷ calls) (Refused refusal ∷ answers) between call T' run is = CallsLeaveTables-accepted T calls answers between call T' run.1 is
-CallsLeaveTables-accepted T (d ∷ calls) (Fault fault ∷ answers) between call T' run is = inl (CallsLeaveTables-accepted T calls answers between call T' run.1 is)
+pub CallsLeave-accepted : (T : Tables) (calls : List Call) (answers : List Answer) (between : Tables) (call : Call) (T' : Tables) → Runs T calls answers between → HasCall by_tables between call T'
+    → CallsLeave by_tables T (calls ++ call ∷ []) (answers ++ Accepted ∷ []) T'
+CallsLeave-accepted T [] [] between call T' run is = subst (λ x. HasCall by_tables x call T') run is
+CallsLeave-accepted T [] (b ∷ answers) between call T' run is = absurd run
+CallsLeave-accepted T (d ∷ calls) [] between call T' run is = absurd run
+CallsLeave-accepted T (d ∷ calls) (Accepted ∷ answers) between call T' run is = (run.0, CallsLeave-accepted (tables_after T d Accepted) calls answers between call T' run.1 is)
+CallsLeave-accepted T (d ∷ calls) (Already ∷ answers) between call T' run is = CallsLeave-accepted T calls answers between call T' run.1 is
+CallsLeave-accepted T (d ∷ calls) (Refused refusal ∷ answers) between call T' run is = CallsLeave-accepted T calls answers between call T' run.1 is
+CallsLeave-accepted T (d ∷ calls) (Fault fault ∷ answers) between call T' run is = inl (CallsLeave-accepted T calls answers between call T' run.1 is)
 
 -- to which a fault was answered, if it is left
-pub CallsLeaveTables-fault : (T : Tables) (calls : List Call) (answers : List Answer) (between : Tables) (call : Call) (fault : FaultData) (T' : Tables) → Runs T calls answers between → IsWithCall between call T'
-    → CallsLeaveTables T (calls ++ call ∷ []) (answers ++ Fault fault ∷ []) T'
-CallsLeaveTables-fault T [] [] between call fault T' run is = let it = subst (λ x. IsWithCall x call T') run is in inr ((λ found. absurd (omega (arith, found.1))), it.0, it.1)
-CallsLeaveTables-fault T [] (b ∷ answers) between call fault T' run is = absurd run
-CallsLeaveTables-fault T (d ∷ calls) [] between call fault T' run is = absurd run
-CallsLeaveTables-fault T (d ∷ calls) (Accepted ∷ answers) between call fault T' run is = (run.0, CallsLeaveTables-fault (tables_after T d Accepted) calls answers between call fault T' run.1 is)
-CallsLeaveTables-fault T (d ∷ calls) (Already ∷ answers) between call fault T' run is = CallsLeaveTables-fault T calls answers between call fault T' run.1 is
-CallsLeaveTables-fault T (d ∷ calls) (Refused refusal ∷ answers) between call fault T' run is = CallsLeaveTables-fault T calls answers between call fault T' run.1 is
-CallsLeaveTables-fault T (d ∷ calls) (Fault b ∷ answers) between call fault T' run is = inl (CallsLeaveTables-fault T calls answers between call fault T' run.1 is)
+pub CallsLeave-fault : (T : Tables) (calls : List Call) (answers : List Answer) (between : Tables) (call : Call) (fault : FaultData) (T' : Tables) → Runs T calls answers between → HasCall by_tables between call T'
+    → CallsLeave by_tables T (calls ++ call ∷ []) (answers ++ Fault fault ∷ []) T'
+CallsLeave-fault T [] [] between call fault T' run is = inr ((λ found. absurd (omega (arith, found.1))), subst (λ x. HasCall by_tables x call T') run is)
+CallsLeave-fault T [] (b ∷ answers) between call fault T' run is = absurd run
+CallsLeave-fault T (d ∷ calls) [] between call fault T' run is = absurd run
+CallsLeave-fault T (d ∷ calls) (Accepted ∷ answers) between call fault T' run is = (run.0, CallsLeave-fault (tables_after T d Accepted) calls answers between call fault T' run.1 is)
+CallsLeave-fault T (d ∷ calls) (Already ∷ answers) between call fault T' run is = CallsLeave-fault T calls answers between call fault T' run.1 is
+CallsLeave-fault T (d ∷ calls) (Refused refusal ∷ answers) between call fault T' run is = CallsLeave-fault T calls answers between call fault T' run.1 is
+CallsLeave-fault T (d ∷ calls) (Fault b ∷ answers) between call fault T' run is = inl (CallsLeave-fault T calls answers between call fault T' run.1 is)
 
 -- whatever was answered: `before` is what could be left before the call
-pub CallsLeaveTables-push : (T : Tables) (calls : List Call) (answers : List Answer) (between : Tables) (call : Call) (answer : Answer) (before : Tables → Type 0) (honest honest' : Type 0) (T' : Tables)
-    → (honest → Runs T calls answers between) → ((U : Tables) → before U → CallsLeaveTables T calls answers U) → Lasts answer honest honest' → (honest' → honest) → before T' ⊎ honest
-    → (honest → AnswerLeavesTables before (IsWithCall between call) answer T') → CallsLeaveTables T (calls ++ call ∷ []) (answers ++ answer ∷ []) T'
-CallsLeaveTables-push T calls answers between call Accepted before honest honest' T' runs earlier lasts back either leaves = CallsLeaveTables-accepted T calls answers between call T' (runs (back lasts)) (leaves (back lasts))
-CallsLeaveTables-push T calls answers between call Already before honest honest' T' runs earlier lasts back either leaves =
-    CallsLeaveTables-more T calls answers call Already T' (λ h. absurd (cc)) (earlier T' (elim either [ inl b ↦ b | inr h ↦ leaves h ]))
-CallsLeaveTables-push T calls answers between call (Refused refusal) before honest honest' T' runs earlier lasts back either leaves =
-    CallsLeaveTables-more T calls answers call (Refused refusal) T' (λ h. absurd (cc)) (earlier T' (elim either [ inl b ↦ b | inr h ↦ leaves h ]))
-CallsLeaveTables-push T calls answers between call (Fault fault) before honest honest' T' runs earlier lasts back either leaves =
-    let more = λ (b : before T'). CallsLeaveTables-more T calls answers call (Fault fault) T' (λ h. absurd (cc)) (earlier T' b) in
+pub CallsLeave-push : (T : Tables) (calls : List Call) (answers : List Answer) (between : Tables) (call : Call) (answer : Answer) (before : Tables → Type 0) (honest honest' : Type 0) (T' : Tables)
+    → (honest → Runs T calls answers between) → ((U : Tables) → before U → CallsLeave by_tables T calls answers U) → Lasts answer honest honest' → (honest' → honest) → before T' ⊎ honest
+    → (honest → AnswerLeavesTables before (HasCall by_tables between call) answer T') → CallsLeave by_tables T (calls ++ call ∷ []) (answers ++ answer ∷ []) T'
+CallsLeave-push T calls answers between call Accepted before honest honest' T' runs earlier lasts back either leaves = CallsLeave-accepted T calls answers between call T' (runs (back lasts)) (leaves (back lasts))
+CallsLeave-push T calls answers between call Already before honest honest' T' runs earlier lasts back either leaves =
+    CallsLeave-more T calls answers call Already T' (λ h. absurd (cc)) (earlier T' (elim either [ inl b ↦ b | inr h ↦ leaves h ]))
+CallsLeave-push T calls answers between call (Refused refusal) before honest honest' T' runs earlier lasts back either leaves =
+    CallsLeave-more T calls answers call (Refused refusal) T' (λ h. absurd (cc)) (earlier T' (elim either [ inl b ↦ b | inr h ↦ leaves h ]))
+CallsLeave-push T calls answers between call (Fault fault) before honest honest' T' runs earlier lasts back either leaves =
+    let more = λ (b : before T'). CallsLeave-more T calls answers call (Fault fault) T' (λ h. absurd (cc)) (earlier T' b) in
     elim either [
       | inl b ↦ more b
-      | inr h ↦ elim (leaves h) [ inl b ↦ more b | inr w ↦ CallsLeaveTables-fault T calls answers between call fault T' (runs h) w ]
+      | inr h ↦ elim (leaves h) [ inl b ↦ more b | inr w ↦ CallsLeave-fault T calls answers between call fault T' (runs h) w ]
     ]
 
 -- tables that are left stand for a legal history
-pub CallsLeaveHistory-CallsLeaveTables : (h : History) → IsLegal h → (T : Tables) → StandsFor T h → (calls : List Call) (answers : List Answer) (T' : Tables) → CallsLeaveTables T calls answers T' → CallsLeaveHistory h calls answers T'
-CallsLeaveHistory-CallsLeaveTables h legal T stands [] [] T' left = (legal, subst (λ x. StandsFor x h) (sym left) stands)
-CallsLeaveHistory-CallsLeaveTables h legal T stands [] (b ∷ answers) T' left = absurd left
-CallsLeaveHistory-CallsLeaveTables h legal T stands (d ∷ calls) [] T' left = absurd left
-CallsLeaveHistory-CallsLeaveTables h legal T stands (d ∷ calls) (Accepted ∷ answers) T' left =
+pub CallsLeave-by_history : (h : History) → IsLegal h → (T : Tables) → StandsFor T h → (calls : List Call) (answers : List Answer) (T' : Tables) → CallsLeave by_tables T calls answers T' → CallsLeave by_history h calls answers T'
+CallsLeave-by_history h legal T stands [] [] T' left = (legal, subst (λ x. StandsFor x h) (sym left) stands)
+CallsLeave-by_history h legal T stands [] (b ∷ answers) T' left = absurd left
+CallsLeave-by_history h legal T stands (d ∷ calls) [] T' left = absurd left
+CallsLeave-by_history h legal T stands (d ∷ calls) (Accepted ∷ answers) T' left =
     let it = CarriesOn-answer h legal T stands d Accepted (tables_after T d Accepted) (λ _. left.0) (λ _. refl) in
-    (it.verdict, CallsLeaveHistory-CallsLeaveTables (with_call h d) it.legal (tables_after T d Accepted) it.stands calls answers T' left.1)
-CallsLeaveHistory-CallsLeaveTables h legal T stands (d ∷ calls) (Already ∷ answers) T' left = CallsLeaveHistory-CallsLeaveTables h legal T stands calls answers T' left
-CallsLeaveHistory-CallsLeaveTables h legal T stands (d ∷ calls) (Refused refusal ∷ answers) T' left = CallsLeaveHistory-CallsLeaveTables h legal T stands calls answers T' left
-CallsLeaveHistory-CallsLeaveTables h legal T stands (d ∷ calls) (Fault fault ∷ answers) T' left = elim left [
-  | inl rest ↦ inl (CallsLeaveHistory-CallsLeaveTables h legal T stands calls answers T' rest)
-  | inr it ↦ let with = CarriesOn-answer h legal T stands d Accepted T' (λ _. it.1) (λ _. it.2) in inr (it.0, with.verdict, (with.legal, with.stands))
+    (it.verdict, CallsLeave-by_history (with_call h d) it.legal (tables_after T d Accepted) it.stands calls answers T' left.1)
+CallsLeave-by_history h legal T stands (d ∷ calls) (Already ∷ answers) T' left = CallsLeave-by_history h legal T stands calls answers T' left
+CallsLeave-by_history h legal T stands (d ∷ calls) (Refused refusal ∷ answers) T' left = CallsLeave-by_history h legal T stands calls answers T' left
+CallsLeave-by_history h legal T stands (d ∷ calls) (Fault fault ∷ answers) T' left = elim left [
+  | inl rest ↦ inl (CallsLeave-by_history h legal T stands calls answers T' rest)
+  | inr it ↦ let with = CarriesOn-answer h legal T stands d Accepted T' (λ _. it.1.0) (λ _. it.1.1) in inr (it.0, (with.verdict, (with.legal, with.stands)))
 ]

@@ -7,14 +7,15 @@ use Rattle.index_rules.specs.declared.rows.WalkEnd.{WalkEnd}
 use Rattle.index_rules.specs.History.{History}
 use Rattle.index_rules.specs.StandsFor.{StandsFor}
 use Rattle.index_rules.specs.Tables.{Tables}
-use Rattle.index_desk.specs.Looks.{HandsOver, LooksAtBoth, ReadsTables, WalksTables}
+use Rattle.index_desk.specs.Looks.{Finding, HandsOver, LooksBy, ReadsTables, WalksTables}
+use Rattle.index_desk.specs.Rules.{by_history, by_tables}
 
 module _ {S : Type 0} (g : Ghosts S) (old new : S) where
-  pub looks_at_both : {X : Type 0} (result : Result X Fault) (Holds : Tables → X → Type 0) (HoldsAfter : History → X → Type 0)
-      → ((h : History) → StandsFor (g.tables old) h → (found : X) → Holds (g.tables old) found → HoldsAfter h found)
-      → (g.IsHonest new → IfOk result (Holds (g.tables old))) → ReadsTables g old new result
-      → LooksAtBoth g old new result Holds HoldsAfter
-  looks_at_both result Holds HoldsAfter after found look = record {
+  pub looks_by : {X : Type 0} (result : Result X Fault) (Holds : Finding X)
+      → ((h : History) → StandsFor (g.tables old) h → (found : X) → Holds Tables by_tables (g.tables old) found → Holds History by_history h found)
+      → (g.IsHonest new → IfOk result (Holds Tables by_tables (g.tables old))) → ReadsTables g old new result
+      → LooksBy g old new result Holds
+  looks_by result Holds after found look = record {
     found = found;
     history = λ honest. IfOk-weaker result _ _ (λ it holds h stands. after h stands it holds) (found honest);
     look = look;

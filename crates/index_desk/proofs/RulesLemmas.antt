@@ -6,7 +6,7 @@ use Rattle.index_rules.specs.Maps.{Bytes}
 use Rattle.index_rules.specs.Tables.{Tables}
 use Rattle.index_rules.specs.History.{History}
 use Rattle.index_rules.specs.StandsFor.{StandsFor}
-use Rattle.index_desk.specs.declared.standing.Standing.{Standing}
+use Rattle.index_rules.specs.declared.standing.Standing.{Standing}
 use Rattle.index_desk.specs.Standings.{IsStandingAfter}
 use Rattle.index_desk.specs.PastRows.{AreHeldRowsAfter, AreProjectRowsAfter}
 use Rattle.index_desk.specs.Rules.{by_history, by_tables}

@@ -1,5 +1,5 @@
 -- What is known of a call that was decided and settled, and of calls in a row.
-use Rattle.std.proofs.Common.{◌≡◌, ◌∙◌, ◌⊎◌, ℕ, inl, inr, ap, subst, sym, List, [], ◌∷◌, ◌++◌, Contains, Result, Ok}
+use Rattle.std.proofs.Common.{◌≡◌, ◌∙◌, ◌⊎◌, ℕ, inl, inr, refl, ap, subst, sym, List, [], ◌∷◌, ◌++◌, Contains, Result, Ok}
 use Rattle.std.proofs.lemmas.List.Elements.{Contains-append_left, Contains-push}
 use Rattle.index_io.specs.Counts.{FailsAtMostOnce, HasFailed}
 use Rattle.index_rules.specs.declared.answer.Answer.{Answer}
@@ -21,11 +21,12 @@ use Rattle.index_rules.specs.Verdict.{Verdict, verdict_now}
 use Rattle.index_rules.proofs.StandsOn.{CarriesOn-answer, CarriesOnBy-Runs, sound_when_legal}
 use Rattle.index_rules.proofs.OneBearer.{HasOneBearer-Runs, HasOneBearer-tables_after}
 use Rattle.index_rules.proofs.SoundLemmas.{IsSound-Runs, IsSound-tables_after}
-use Rattle.index_desk.specs.Crashes.{AnswerLeavesTables, CallsLeaveTables, IsWithCall, LastsAll}
+use Rattle.index_desk.specs.Crashes.{AnswerLeavesTables, CallsLeave, HasCall, LastsAll}
+use Rattle.index_desk.specs.Rules.{by_tables}
 use Rattle.index_desk.specs.Invariants.{KeepsInvariants}
 use Rattle.index_desk.specs.Looks.{LooksAt}
 use Rattle.index_desk.specs.Takes.{ByTables, CrashByTables, Settles, SettlesBy, Takes, TakesInTurn}
-use Rattle.index_desk.proofs.CrashLemmas.{Lasts-earlier, LastsAll-weaker, Leaves-weaker, CallsLeaveHistory-CallsLeaveTables}
+use Rattle.index_desk.proofs.CrashLemmas.{Lasts-earlier, LastsAll-weaker, Leaves-weaker, CallsLeave-by_history}
 
 -- ---- one call
 
@@ -33,19 +34,26 @@ use Rattle.index_desk.proofs.CrashLemmas.{Lasts-earlier, LastsAll-weaker, Leaves
 module _ {S : Type 0} (g : Ghosts S) (old new : S) (call : Call) (answer : Answer)
     (verdict : ByTables g old new (λ T T'. Answers (verdict_now T call) answer))
     (next : ByTables g old new (λ T T'. T' ≡ tables_after T call answer))
-    (crash : CrashByTables g old new (λ T. AnswerLeavesTables (g.may_leave old) (IsWithCall T call) answer))
+    (crash : CrashByTables g old new (λ T. AnswerLeavesTables (g.may_leave old) (HasCall by_tables T call) answer))
     (settles : Settles g old new answer) where
   takes_by_tables : Takes g old new call answer
   takes_by_tables = record {
-    verdict = verdict;
-    next = next;
-    history = λ honest h legal stands. CarriesOn-answer h legal (g.tables old) stands call answer (g.tables new) (verdict honest) (next honest);
-    crash = crash;
-    crash_history = λ honest clean h legal stands T left.
-        Leaves-weaker _ _ _ _ (λ T' was. was)
-        (λ T' after. CarriesOn-answer h legal (g.tables old) stands call Accepted T' (λ _. after.0) (λ _. after.1))
-        answer T
-        (crash honest clean (sound_when_legal h legal (g.tables old) stands).one_bearer T left);
+    taken = λ honest. record {
+      tables = λ one. (verdict honest one, next honest one);
+      history = λ h legal stands.
+          let on = CarriesOn-answer h legal (g.tables old) stands call answer (g.tables new) (verdict honest) (next honest) in
+          (on.verdict, (on.legal, on.stands));
+    };
+    crash = λ honest clean T left. record {
+      tables = λ one. crash honest clean one T left;
+      history = λ h legal stands.
+          Leaves-weaker _ _ _ _ (λ T' was. was)
+          (λ T' after.
+          let on = CarriesOn-answer h legal (g.tables old) stands call Accepted T' (λ _. after.0) (λ _. after.1) in
+          (on.verdict, (on.legal, on.stands)))
+          answer T
+          (crash honest clean (sound_when_legal h legal (g.tables old) stands).one_bearer T left);
+    };
     settles = settles;
   }
 
@@ -90,11 +98,11 @@ module _ {S : Type 0} (g : Ghosts S) (old now new : S) (call : Call) (answer : A
 pub takes_keep : {S : Type 0} (g : Ghosts S) (old new : S) (call : Call) (answer : Answer) → Takes g old new call answer → KeepsInvariants g old new
 takes_keep g old new call answer took = record {
   one_bearer = λ honest one.
-      subst HasOneBearer (sym (took.next honest one))
-      (HasOneBearer-tables_after (g.tables old) one call answer (took.verdict honest one));
+      let it = (took.taken honest).tables one in
+      subst HasOneBearer (sym it.1) (HasOneBearer-tables_after (g.tables old) one call answer it.0);
   sound = λ honest sound.
-      subst IsSound (sym (took.next honest sound.one_bearer))
-      (IsSound-tables_after (g.tables old) sound call answer (took.verdict honest sound.one_bearer));
+      let it = (took.taken honest).tables sound.one_bearer in
+      subst IsSound (sym it.1) (IsSound-tables_after (g.tables old) sound call answer it.0);
   honest = took.settles.honest;
   clean = took.settles.clean;
 }
@@ -113,20 +121,25 @@ stores_push answers (Refused refusal) first before after (inl none) next = inl (
 
 module _ {S : Type 0} (g : Ghosts S) (old new : S) (calls : List Call) (answers : List Answer)
     (runs : ByTables g old new (λ T. Runs T calls answers)) where
-  pub takes_in_turn : CrashByTables g old new (λ T. CallsLeaveTables T calls answers)
+  pub takes_in_turn : CrashByTables g old new (λ T. CallsLeave by_tables T calls answers)
       → (g.IsClean new → LastsAll answers (g.IsHonest old) (g.IsHonest new))
       → (g.IsHonest new → (T : Tables) → g.may_leave new T → T ≡ g.tables new)
       → (Contains answers (Fault Store) → HasFailed (g.failures old) (g.failures new))
       → (g.stores new ≡ g.stores old) ⊎ Contains answers (Fault Store)
       → TakesInTurn g old new calls answers
   takes_in_turn crash lasts settled store stores = record {
-    runs = runs;
-    history = λ honest h legal stands.
-        CarriesOnBy-Runs h legal _ stands calls answers _ (runs honest (sound_when_legal h legal _ stands).one_bearer);
-    crash = crash;
-    crash_history = λ honest clean h legal stands T left.
-        CallsLeaveHistory-CallsLeaveTables h legal _ stands calls answers T
-        (crash honest clean (sound_when_legal h legal _ stands).one_bearer T left);
+    runs = λ honest. record {
+      tables = λ one. record { later = g.tables new; is = runs honest one; shows = refl };
+      history = λ h legal stands.
+          let on = CarriesOnBy-Runs h legal _ stands calls answers _ (runs honest (sound_when_legal h legal _ stands).one_bearer) in
+          record { later = on.after; is = on.extends; shows = (on.legal, on.stands) };
+    };
+    crash = λ honest clean T left. record {
+      tables = λ one. crash honest clean one T left;
+      history = λ h legal stands.
+          CallsLeave-by_history h legal _ stands calls answers T
+          (crash honest clean (sound_when_legal h legal _ stands).one_bearer T left);
+    };
     lasts = lasts;
     alone = λ clean. LastsAll-weaker answers _ _ _ settled (lasts clean);
     store = store;

@@ -4,11 +4,8 @@ use Rattle.index_rules.specs.declared.answer.Answer.{Answer}
 use Rattle.index_rules.specs.declared.answer.Answer.TheVariants.{Accepted, Already, Refused, Fault}
 use Rattle.index_rules.specs.declared.call.Call.{Call}
 use Rattle.index_rules.specs.Tables.{Tables}
-use Rattle.index_rules.specs.Verdict.{Verdict, Accept, verdict_now}
-use Rattle.index_rules.specs.Runs.{tables_after}
-use Rattle.index_rules.specs.History.{History}
-use Rattle.index_rules.specs.StandsFor.{StandsFor}
-use Rattle.index_rules.specs.Legal.{IsLegal, history_after, verdict_after}
+use Rattle.index_rules.specs.Verdict.{Accept}
+use Rattle.index_desk.specs.Rules.{Rules}
 
 -- The tables that a crash may leave after an answer. If the call was accepted, they have it. After
 -- a fault they may have it or be as before. Else they are as before.
@@ -18,9 +15,10 @@ AnswerLeavesTables before with_call Already T' = before T'
 AnswerLeavesTables before with_call (Refused refusal) T' = before T'
 AnswerLeavesTables before with_call (Fault fault) T' = before T' ⊎ with_call T'
 
--- the tables after a call that the verdict accepts
-abbrev pub IsWithCall : Tables → Call → Tables → Type 0
-IsWithCall T call T' = (verdict_now T call ≡ Accept) × (T' ≡ tables_after T call Accepted)
+-- the rules accept the call, and these tables have it
+abbrev pub HasCall : {S : Type 0} → Rules S → S → Call → Tables → Type 0
+HasCall rules s call T' =
+    (rules.verdict s call ≡ Accept) × rules.Shows (rules.next s call Accepted) T'
 
 -- Whether the store is honest after an answer. If the call was accepted, it is. After a fault
 -- nothing is known. Else it is if it was before.
@@ -39,30 +37,18 @@ LastsAll (Already ∷ answers) before after = LastsAll answers before after
 LastsAll (Refused refusal ∷ answers) before after = LastsAll answers before after
 LastsAll (Fault fault ∷ answers) before after = LastsAll answers ⊥ after
 
--- the tables that a crash may leave after calls in a row, over any state that has verdicts: those
--- after the accepted calls, or after these and one call that was answered with a fault after the
--- last of them
-abbrev pub CallsLeaveState : {S : Type 0} → (S → Call → Verdict) → (S → Call → Answer → S)
-    → (S → Tables → Type 0) → S → List Call → List Answer → Tables → Type 0
-CallsLeaveState verdict next Is s [] [] T' = Is s T'
-CallsLeaveState verdict next Is s [] (answer ∷ answers) T' = ⊥
-CallsLeaveState verdict next Is s (call ∷ calls) [] T' = ⊥
-CallsLeaveState verdict next Is s (call ∷ calls) (Accepted ∷ answers) T' =
-    (verdict s call ≡ Accept)
-    × CallsLeaveState verdict next Is (next s call Accepted) calls answers T'
-CallsLeaveState verdict next Is s (call ∷ calls) (Already ∷ answers) T' =
-    CallsLeaveState verdict next Is s calls answers T'
-CallsLeaveState verdict next Is s (call ∷ calls) (Refused refusal ∷ answers) T' =
-    CallsLeaveState verdict next Is s calls answers T'
-CallsLeaveState verdict next Is s (call ∷ calls) (Fault fault ∷ answers) T' =
-    CallsLeaveState verdict next Is s calls answers T'
-    ⊎ ((¬ Contains answers Accepted)
-    × (verdict s call ≡ Accept) × Is (next s call Accepted) T')
-
--- `CallsLeaveState` the tables
-abbrev pub CallsLeaveTables : Tables → List Call → List Answer → Tables → Type 0
-CallsLeaveTables = CallsLeaveState verdict_now tables_after (λ T T'. T' ≡ T)
-
--- `CallsLeaveState` a history: the tables stand for a legal one
-abbrev pub CallsLeaveHistory : History → List Call → List Answer → Tables → Type 0
-CallsLeaveHistory = CallsLeaveState verdict_after history_after (λ h T'. IsLegal h × StandsFor T' h)
+-- the tables that a crash may leave after calls in a row: those after the accepted calls, or after
+-- these and one call that was answered with a fault after the last of them
+abbrev pub CallsLeave : {S : Type 0} → Rules S → S → List Call → List Answer → Tables → Type 0
+CallsLeave rules s [] [] T' = rules.Shows s T'
+CallsLeave rules s [] (answer ∷ answers) T' = ⊥
+CallsLeave rules s (call ∷ calls) [] T' = ⊥
+CallsLeave rules s (call ∷ calls) (Accepted ∷ answers) T' =
+    (rules.verdict s call ≡ Accept)
+    × CallsLeave rules (rules.next s call Accepted) calls answers T'
+CallsLeave rules s (call ∷ calls) (Already ∷ answers) T' = CallsLeave rules s calls answers T'
+CallsLeave rules s (call ∷ calls) (Refused refusal ∷ answers) T' =
+    CallsLeave rules s calls answers T'
+CallsLeave rules s (call ∷ calls) (Fault fault ∷ answers) T' =
+    CallsLeave rules s calls answers T'
+    ⊎ ((¬ Contains answers Accepted) × HasCall rules s call T')

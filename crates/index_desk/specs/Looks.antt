@@ -11,6 +11,7 @@ use Rattle.index_rules.specs.StandsFor.{StandsFor}
 use Rattle.index_rules.specs.Tables.{Tables}
 use Rattle.index_rules.specs.StoreFaults.{CountsStoreFault, fails_by_store, ends_by_store}
 use Rattle.index_rules.specs.Walks.{has_fault}
+use Rattle.index_desk.specs.Rules.{Rules, by_history, by_tables}
 
 -- no table changed, the store is honest or clean only if it was before, and a crash leaves what it
 -- could have left before
@@ -66,13 +67,17 @@ pub record LooksAt {S X : Type 0} (g : Ghosts S) (old new : S) (result : Result 
   pub found : g.IsHonest new → IfOk result (Holds (g.tables old))
   pub look : ReadsTables g old new result
 
--- a look that succeeds finds what `Holds` says of the tables, and `HoldsAfter` of each history for
--- which they stand
-pub record LooksAtBoth {S X : Type 0} (g : Ghosts S) (old new : S) (result : Result X Fault)
-    (Holds : Tables → X → Type 0) (HoldsAfter : History → X → Type 0) : Type 0 where
-  pub found : g.IsHonest new → IfOk result (Holds (g.tables old))
+-- what is found, by rules over any state
+abbrev pub Finding : Type 0 → Type 1
+Finding X = (S : Type 0) → Rules S → S → X → Type 0
+
+-- a look that succeeds finds what `Holds` says by the tables, and by each history for which they
+-- stand
+pub record LooksBy {S X : Type 0} (g : Ghosts S) (old new : S) (result : Result X Fault)
+    (Holds : Finding X) : Type 0 where
+  pub found : g.IsHonest new → IfOk result (Holds Tables by_tables (g.tables old))
   pub history : g.IsHonest new → IfOk result
-      (λ found. (h : History) → StandsFor (g.tables old) h → HoldsAfter h found)
+      (λ found. (h : History) → StandsFor (g.tables old) h → Holds History by_history h found)
   pub look : ReadsTables g old new result
 
 -- A walk over the rows of the tables, which are those of each history for which they stand. Even if

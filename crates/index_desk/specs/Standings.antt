@@ -12,8 +12,8 @@ use Rattle.index_rules.specs.PastNames.{state_after, owns_after}
 use Rattle.index_rules.specs.PastNames as past
 use Rattle.index_rules.specs.StandsFor.{case_record_after, project_after}
 use Rattle.index_desk.specs.Lists.{AreThose}
-use Rattle.index_desk.specs.declared.standing.Standing.{Standing}
-use Rattle.index_desk.specs.declared.standing.Standing.TheVariants as standing
+use Rattle.index_rules.specs.declared.standing.Standing.{Standing}
+use Rattle.index_rules.specs.declared.standing.Standing.TheVariants as standing
 
 -- the standing of a held name, with its record, its owners and its open case
 abbrev pub held_with : Bytes → Project → List Bytes → Option CaseRecord → Standing

@@ -10,14 +10,14 @@ use Rattle.index_rules.specs.declared.change.Change.{Change}
 use Rattle.index_rules.specs.Effect.{means}
 use Rattle.index_rules.specs.Facts.{HasOneBearer}
 use Rattle.index_rules.specs.History.{History}
-use Rattle.index_rules.specs.Legal.{CarriesOn, CarriesOnAll, IsLegal}
-use Rattle.index_rules.specs.Runs.{Answers, Runs, tables_after, tables_after_change}
+use Rattle.index_rules.specs.Legal.{IsLegal}
+use Rattle.index_rules.specs.Runs.{Answers, RunsOver, tables_after_change}
 use Rattle.index_rules.specs.StandsFor.{StandsFor}
 use Rattle.index_rules.specs.Tables.{Tables}
 use Rattle.index_rules.specs.StoreFaults.{CountsStoreFault, answers_store_fault}
-use Rattle.index_rules.specs.Verdict.{Accept, Verdict, verdict_now}
-use Rattle.index_desk.specs.Crashes.{AnswerLeavesTables, CallsLeaveTables, IsWithCall, Lasts}
-use Rattle.index_desk.specs.Crashes.{CallsLeaveHistory, LastsAll}
+use Rattle.index_rules.specs.Verdict.{Accept, Verdict}
+use Rattle.index_desk.specs.ByRules.{ByRules, CrashByRules, Relation, StandsAfter}
+use Rattle.index_desk.specs.Crashes.{AnswerLeavesTables, CallsLeave, HasCall, Lasts, LastsAll}
 
 -- ---- what `Holds` of the tables, and when
 
@@ -82,34 +82,33 @@ pub record SettlesBy {S : Type 0} (g : Ghosts S) (old new : S) (verdict : Verdic
       → AnswerLeavesTables (g.may_leave old)
       (λ T'. (verdict ≡ Accept) × (T' ≡ means change (g.tables old))) answer T
 
+-- by rules: the answer is the verdict or a fault, and the tables are those after the call
+abbrev pub TakesCall : Call → Answer → Relation
+TakesCall call answer S rules s T' =
+    Answers (rules.verdict s call) answer × rules.Shows (rules.next s call answer) T'
+
+-- by rules: each answer is the verdict at its point or a fault, and the tables are those after the
+-- accepted calls, in order
+abbrev pub TakesCalls : List Call → List Answer → Relation
+TakesCalls calls answers S rules s =
+    StandsAfter rules (RunsOver rules.verdict rules.next s calls answers)
+
 -- a call was taken
 pub record Takes {S : Type 0} (g : Ghosts S) (old new : S) (call : Call)
     (answer : Answer) : Type 0 where
-  -- the answer is the verdict or a fault
-  pub verdict : ByTables g old new (λ T T'. Answers (verdict_now T call) answer)
-  -- the tables are those after the call and its answer
-  pub next : ByTables g old new (λ T T'. T' ≡ tables_after T call answer)
-  -- each legal history of the tables goes on with the accepted call
-  pub history : ByHistory g old new (λ h. CarriesOn h call answer)
+  pub taken : ByRules g old new (TakesCall call answer)
   -- a crash leaves the tables that `AnswerLeavesTables` says, with the call or without it
-  pub crash : CrashByTables g old new
-      (λ T. AnswerLeavesTables (g.may_leave old) (IsWithCall T call) answer)
-  pub crash_history : CrashByHistory g old new
-      (λ h. AnswerLeavesTables (g.may_leave old) (CarriesOn h call Accepted) answer)
+  pub crash : CrashByRules g old new
+      (λ S rules s. AnswerLeavesTables (g.may_leave old) (HasCall rules s call) answer)
   pub settles : Settles g old new answer
 
 -- calls in a row were taken
 pub record TakesInTurn {S : Type 0} (g : Ghosts S) (old new : S) (calls : List Call)
     (answers : List Answer) : Type 0 where
-  -- each answer is the verdict at its point or a fault, and the tables are those after the accepted
-  -- calls
-  pub runs : ByTables g old new (λ T. Runs T calls answers)
-  -- each legal history of the tables goes on with exactly the accepted calls, in order
-  pub history : ByHistory g old new (λ h. CarriesOnAll h calls answers)
+  pub runs : ByRules g old new (TakesCalls calls answers)
   -- a crash leaves the tables after the accepted calls, or after these and one call that was
   -- answered with a fault after the last of them
-  pub crash : CrashByTables g old new (λ T. CallsLeaveTables T calls answers)
-  pub crash_history : CrashByHistory g old new (λ h. CallsLeaveHistory h calls answers)
+  pub crash : CrashByRules g old new (λ S rules s. CallsLeave rules s calls answers)
   -- if the store is still clean, and no fault was answered since the last accepted call, or since
   -- the first call of a store that was honest before, it is honest
   pub lasts : g.IsClean new → LastsAll answers (g.IsHonest old) (g.IsHonest new)

@@ -1,6 +1,5 @@
 //! Calls in order, over any books.
 ghost use Rattle.std.specs.Prelude.{◌≡◌, [], IfOk, IfErr, OnErr, Some, length, vec_capacity};
-ghost use Rattle.std.specs.FinMap.{get};
 ghost use Rattle.index_rules.specs.Decided.{Decides};
 ghost use Rattle.index_rules.specs.Effect.{effect};
 ghost use Rattle.index_rules.specs.Verdict.{Verdict, verdict_now};
@@ -8,24 +7,22 @@ ghost use Rattle.index_rules.specs.Facts.{HasOneBearer, Sees, facts_in};
 ghost use Rattle.index_rules.specs.Requests.{keys_of};
 ghost use Rattle.index_rules.specs.Seen.{SeesName};
 ghost use Rattle.index_rules.specs.Sound.{IsSound};
-ghost use Rattle.index_rules.specs.StandsFor.{body_after};
 ghost use Rattle.index_desk.specs.Bodies.{AreBytesOf};
 ghost use Rattle.index_desk.specs.Invariants.{KeepsInvariants};
-ghost use Rattle.index_desk.specs.Looks.{LooksAt, LooksAtBoth};
+ghost use Rattle.index_desk.specs.Looks.{LooksAt, LooksBy};
 ghost use Rattle.index_desk.specs.Takes.{Settles, SettlesBy, Takes, TakesInTurn};
-ghost use Rattle.index_desk.specs.Standings.{IsStandingAfter, held_with, standing_in};
+ghost use Rattle.index_desk.specs.Standings.{held_with};
 
-use crate::standing::{HeldName, Standing};
 use index_digest::Sealed;
 use index_names::{FileName, NormalName};
 use index_rules::{
-    Answer, Books, Call, CaseRecord, Change, Decision, Fault, Keys, NameRecord, NameSeen, Owners,
-    Project, Stop, View, decide,
+    Answer, Books, Call, CaseRecord, Change, Decision, Fault, HeldName, Keys, NameRecord, NameSeen,
+    Owners, Project, Standing, Stop, View, decide,
 };
 use std::alloc::Global;
 use std::marker::Model;
 
-mod cached;
+mod books;
 mod check;
 mod report;
 mod rows;
@@ -122,8 +119,8 @@ impl<B: Books> Desk<B> {
     ///
     /// `OutOfMemory` if memory runs out, and `Store` if the books fail.
     pub fn standing(&mut self, alloc: Global, name: &NormalName) -> Result<Standing, Fault>
-        ensures { LooksAtBoth B.Books self.old self.new result
-            (λ T standing. standing ≡ standing_in T name.now) (λ h. IsStandingAfter h name.now) }
+        ensures { LooksBy B.Books self.old self.new result
+            (λ S rules s. rules.Stands s name.now) }
     {
         let NameSeen {
             name: record,
@@ -146,9 +143,10 @@ impl<B: Books> Desk<B> {
     pub fn body(&mut self, alloc: Global, file: &FileName) -> Result<Option<Sealed>, Fault>
         // In sound tables the bytes have the size and the digest that the file is bound to. By a history they are those
         // of the file's last upload, if the file is undeleted.
-        ensures { LooksAtBoth B.Books self.old self.new result
-            (λ T body. (body ≡ get T.bodies file.now) × (IsSound T → AreBytesOf T file.now body))
-            (λ h body. body ≡ body_after h file.now) }
+        ensures looks { LooksBy B.Books self.old self.new result
+            (λ S rules s. rules.Body s file.now) }
+        ensures bound { LooksAt B.Books self.old self.new result
+            (λ T body. IsSound T → AreBytesOf T file.now body) }
     {
         self.books.bytes_of(alloc, file)
     }

@@ -1,11 +1,8 @@
 //! Rows of the tables: as lists, and by walks that pass them to a taker one at a time.
 ghost use Rattle.std.specs.Prelude.{◌≡◌, option_map};
-ghost use Rattle.std.specs.FinMap.{get};
 ghost use Rattle.index_rules.specs.TableRows.{held_rows_in, is_held_row as is_held_row_lem};
-ghost use Rattle.index_rules.specs.Verdict.{is_held as is_held_lem};
 ghost use Rattle.index_rules.specs.Walks.{Walks};
-ghost use Rattle.index_rules.specs.PastNames.{is_held_now, state_after};
-ghost use Rattle.index_desk.specs.Looks.{LooksAtBoth, HandsOver};
+ghost use Rattle.index_desk.specs.Looks.{LooksBy, HandsOver};
 ghost use Rattle.index_desk.specs.PastRows.{AreHeldRowsAfter, AreProjectRowsAfter};
 ghost use Rattle.index_desk.specs.Projects.{WalksProject, project_rows_in};
 
@@ -22,9 +19,8 @@ impl<B: Books> Desk<B> {
     /// `OutOfMemory` if memory runs out, and `Store` if the books fail.
     pub fn is_held(&mut self, alloc: Global, name: &NormalName) -> Result<bool, Fault>
         // Each history for which the tables stood says the same.
-        ensures { LooksAtBoth B.Books self.old self.new result
-            (λ T held. held ≡ is_held_lem (get T.names name.now))
-            (λ h held. held ≡ is_held_now (state_after h name.now)) }
+        ensures { LooksBy B.Books self.old self.new result
+            (λ S rules s held. held ≡ rules.is_held s name.now) }
     {
         self.books.is_held(alloc, name)
     }
@@ -36,8 +32,8 @@ impl<B: Books> Desk<B> {
     /// `OutOfMemory` if memory runs out, and `Store` if the books fail.
     pub fn root_rows(&mut self, alloc: Global) -> Result<Vec<NameRow>, Fault>
         // The names are those that are held after a history for which the tables stood.
-        ensures { LooksAtBoth B.Books self.old self.new result
-            (λ T rows. rows.items ≡ held_rows_in T) (λ h rows. AreHeldRowsAfter h rows.items) }
+        ensures { LooksBy B.Books self.old self.new result
+            (λ S rules s rows. rules.HeldRows s rows.items) }
     {
         let mut rows = self.books.names(alloc)?;
         rows.retain(|row| is_held_row(row));
@@ -56,9 +52,9 @@ impl<B: Books> Desk<B> {
         name: &NormalName,
     ) -> Result<Option<Vec<FileRow>>, Fault>
         // The rows are those of the name's files after a history for which the tables stood.
-        ensures { LooksAtBoth B.Books self.old self.new result
-            (λ T found. option_map (λ rows. rows.items) found ≡ project_rows_in T name.now)
-            (λ h found. AreProjectRowsAfter h name.now (option_map (λ rows. rows.items) found)) }
+        ensures { LooksBy B.Books self.old self.new result
+            (λ S rules s found. rules.ProjectRows s name.now
+            (option_map (λ rows. rows.items) found)) }
     {
         if !self.books.is_held(alloc, name)? {
             return Ok(None);

@@ -8,7 +8,7 @@ use Rattle.index_rules.specs.Facts.{HasOneBearer}
 use Rattle.index_rules.proofs.Counts.{NotFewer-more}
 use Rattle.index_rules.proofs.RunLemmas.{Runs-push, HasFailed-push}
 use Rattle.index_rules.proofs.OneBearer.{HasOneBearer-tables_after}
-use Rattle.index_desk.proofs.CrashLemmas.{LastsAll-push, CallsLeaveTables-push}
+use Rattle.index_desk.proofs.CrashLemmas.{LastsAll-push, CallsLeave-push}
 use Rattle.index_desk.proofs.TakeLemmas.{runs_keep, stores_push, takes_in_turn}
 use Rattle.index_desk.proofs.desk.Desk.apply_all.Goals as goal
 
@@ -20,10 +20,11 @@ loop-call-preserved g c =
     record {
       runs = λ honest one. let now_one = before.one (applied.keeps.honest honest) one in rw c.push_reserved.ensures.items
           (Runs-push (tables c.args.self.now) c.loop-call.yielded c.loop-call.answers.items (tables c.loop-call.self) c.in-Some.call c.apply-answer.result (tables c.apply-answer.new.self)
-          (before.runs (applied.keeps.honest honest) one) (applied.takes.verdict honest now_one) (applied.takes.next honest now_one));
+          (before.runs (applied.keeps.honest honest) one) ((applied.takes.taken honest).tables now_one).0 ((applied.takes.taken honest).tables now_one).1);
       one = λ honest one. let now_one = before.one (applied.keeps.honest honest) one in
-          subst HasOneBearer (sym (applied.takes.next honest now_one))
-          (HasOneBearer-tables_after (tables c.loop-call.self) now_one c.in-Some.call c.apply-answer.result (applied.takes.verdict honest now_one));
+          let took = (applied.takes.taken honest).tables now_one in
+          subst HasOneBearer (sym took.1)
+          (HasOneBearer-tables_after (tables c.loop-call.self) now_one c.in-Some.call c.apply-answer.result took.0);
       told = rw c.push_reserved.ensures.items (simp length-append (omega (arith, before.told)));
       room = omega (arith, before.room, c.push_reserved.ensures.capacity);
       store = λ found. HasFailed-push c.loop-call.answers.items c.apply-answer.result (answer.Fault Store) _ _ _ before.counts applied.takes.settles.failures before.store applied.takes.settles.store (rw c.push_reserved.ensures.items at found);
@@ -33,9 +34,9 @@ loop-call-preserved g c =
       crash = λ honest clean one T left.
           let clean_then = applied.keeps.clean clean in
           rw c.push_reserved.ensures.items
-          (CallsLeaveTables-push (tables c.args.self.now) c.loop-call.yielded c.loop-call.answers.items (tables c.loop-call.self) c.in-Some.call c.apply-answer.result (g.B.Books.may_leave c.loop-call.self) _ _ T
+          (CallsLeave-push (tables c.args.self.now) c.loop-call.yielded c.loop-call.answers.items (tables c.loop-call.self) c.in-Some.call c.apply-answer.result (g.B.Books.may_leave c.loop-call.self) _ _ T
           (λ then. before.runs then one) (before.crash honest clean_then one) (applied.takes.settles.lasts clean) applied.keeps.honest (applied.takes.settles.nothing_new T left)
-          (λ then. applied.takes.crash then clean (before.one then one) T left));
+          (λ then. (applied.takes.crash then clean T left).tables (before.one then one)));
       honest = λ honest. before.honest (applied.keeps.honest honest);
       clean = λ clean. before.clean (applied.keeps.clean clean);
     }
@@ -51,4 +52,4 @@ returns-clause-takes g c =
 pub returns-clause-keeps : goal.returns-clause-keeps
 returns-clause-keeps g c =
     let done = c.loop-call.invariant in
-    runs_keep _ _ _ c.args.calls.items c.loop-call.answers.items (returns-clause-takes g c).runs done.honest done.clean
+    runs_keep _ _ _ c.loop-call.yielded c.loop-call.answers.items done.runs done.honest done.clean

@@ -6,7 +6,8 @@ use Rattle.index_rules.specs.Facts.{HasOneBearer}
 use Rattle.index_rules.specs.Runs.{Runs}
 use Rattle.index_rules.proofs.Counts.{NotFewer}
 use Rattle.index_rules.specs.Tables.{Tables}
-use Rattle.index_desk.specs.Crashes.{CallsLeaveTables, LastsAll}
+use Rattle.index_desk.specs.Crashes.{CallsLeave, LastsAll}
+use Rattle.index_desk.specs.Rules.{by_tables}
 use Rattle.index_desk.proofs.desk.Desk.apply_all.Given as goal
 
 abbrev pub invariant-loop-call : goal.invariant-loop-call
@@ -19,7 +20,7 @@ invariant-loop-call g l = record {
   stores : (g.B.Books.stores l.self ≡ g.B.Books.stores l.fn.self) ⊎ Contains l.answers.items (answer.Fault Store);
   counts : NotFewer (g.B.Books.failures l.fn.self) (g.B.Books.failures l.self);
   lasts : g.B.Books.IsClean l.self → LastsAll l.answers.items (g.B.Books.IsHonest l.fn.self) (g.B.Books.IsHonest l.self);
-  crash : g.B.Books.IsHonest l.fn.self → g.B.Books.IsClean l.self → HasOneBearer (g.B.Books.tables l.fn.self) → (T : Tables) → g.B.Books.may_leave l.self T → CallsLeaveTables (g.B.Books.tables l.fn.self) l.yielded l.answers.items T;
+  crash : g.B.Books.IsHonest l.fn.self → g.B.Books.IsClean l.self → HasOneBearer (g.B.Books.tables l.fn.self) → (T : Tables) → g.B.Books.may_leave l.self T → CallsLeave by_tables (g.B.Books.tables l.fn.self) l.yielded l.answers.items T;
   honest : g.B.Books.IsHonest l.self → g.B.Books.IsHonest l.fn.self;
   clean : g.B.Books.IsClean l.self → g.B.Books.IsClean l.fn.self;
 }

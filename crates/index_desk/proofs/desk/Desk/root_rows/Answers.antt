@@ -1,15 +1,14 @@
-use Rattle.std.proofs.Common.{ap, ◌∙◌, filter, rules, subst, sym}
+use Rattle.std.proofs.Common.{ap, ◌∙◌, filter, rules}
 use Rattle.std.proofs.lemmas.List.Elements.{filter_from_retain}
 use Rattle.index_rules.specs.TableRows.{held_rows_in, is_held_row}
-use Rattle.index_desk.specs.PastRows.{AreHeldRowsAfter}
-use Rattle.index_desk.proofs.LookLemmas.{looks_at_both}
-use Rattle.index_desk.proofs.RowLemmas.{AreHeldRowsAfter-held_rows_in}
+use Rattle.index_desk.proofs.LookLemmas.{looks_by}
+use Rattle.index_desk.proofs.RulesLemmas.{held_rows_by_history}
 use Rattle.index_desk.proofs.desk.Desk.root_rows.Goals as goal
 
 pub returns : goal.returns
 returns g c =
-    looks_at_both _ _ _ _ _ _
-    (λ h stands rows is. subst (AreHeldRowsAfter h) (sym is) (AreHeldRowsAfter-held_rows_in h _ stands))
+    looks_by _ _ _ _ _
+    (λ h stands rows. held_rows_by_history h _ stands rows.items)
     (λ honest.
     filter_from_retain _ is_held_row (λ p row b q called. search rules) _ _ _ c.retain.ensures.filtered
     ∙ ap (filter is_held_row) (c.in_ok-rows.ensures.found honest)
