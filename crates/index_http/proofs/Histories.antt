@@ -20,7 +20,8 @@ use Rattle.index_message.specs.declared.message.Message.TheVariants.{Faulty, Who
 use Rattle.index_message.specs.declared.resource.Resource.{Resource}
 use Rattle.index_message.specs.declared.resource.Resource.TheVariants as resource
 use Rattle.index_pages.specs.declared.served.Served.{Served}
-use Rattle.index_http.specs.Ends.{ReplyEnds, ReplyEndsByHistory}
+use Rattle.index_desk.specs.ByRules.{StandsAfter}
+use Rattle.index_http.specs.Ends.{EndsBy, ReplyEnds}
 use Rattle.index_http.specs.Exchanges.{Acts, InputGetsText, IsFaultless, MessageGetsText, RequestGetsReply, ShowsFile, ShowsName, ShowsPath, ShowsProject, ShowsResource, ShowsRoot, ShowsSpelling, call_of}
 use Rattle.index_http.specs.Replies.{Reply}
 use Rattle.index_http.specs.declared.connection.IoEnd.{IoEnd}
@@ -63,17 +64,14 @@ module _ (h : History) (T : Tables) (stands : StandsFor T h) where
 
 -- ---- messages
 
--- what is replied, and the history for which the tables stand then
-record After (replies : History → Type 0) (T' : Tables) : Type 0 where
-  later : History
-  is : replies later
-  legal : IsLegal later
-  stands : StandsFor T' later
+-- what is replied, by a later history for which the tables stand
+abbrev After : (History → Type 0) → Tables → Type 0
+After = StandsAfter by_history
 
 -- nothing changed
 same_after : (h : History) → IsLegal h → (T T' : Tables) → StandsFor T h → T' ≡ T → (replies : History → Type 0) → replies h → After replies T'
 same_after h legal T T' stands same replies is =
-    record { later = h; is = is; legal = legal; stands = subst (λ x. StandsFor x h) (sym same) stands }
+    record { later = h; is = is; shows = (legal, subst (λ x. StandsFor x h) (sym same) stands) }
 
 acts_after : (Cause : Type 0) (h : History) → IsLegal h → (T T' : Tables) → StandsFor T h → (by_put : Bool) (call : Option Call) (reply : Reply)
     → Acts by_tables Cause by_put T call reply T' → After (Acts by_history Cause by_put h call reply) T'
@@ -81,7 +79,7 @@ acts_after Cause h legal T T' stands by_put None reply (is, same) =
     same_after h legal T T' stands same (Acts by_history Cause by_put h None reply) (is, refl)
 acts_after Cause h legal T T' stands by_put (Some call) reply (a, is, answers, next, cause) =
     let on = CarriesOn-answer h legal T stands call a T' (λ _. answers) (λ _. next) in
-    record { later = history_after h call a; is = (a, is, on.verdict, refl, cause); legal = on.legal; stands = on.stands }
+    record { later = history_after h call a; is = (a, is, on.verdict, refl, cause); shows = (on.legal, on.stands) }
 
 request_after : (Cause : Type 0) (at : ℕ) (h : History) → IsLegal h → (T T' : Tables) → StandsFor T h → (request : HttpRequest) (body : Bytes) (reads : Bool) (reply : Reply)
     → RequestGetsReply by_tables Cause at T request body reads reply T' → After (RequestGetsReply by_history Cause at h request body reads reply) T'
@@ -99,13 +97,13 @@ message_after Cause at h legal T T' stands (Faulty fault is_head) text (is, same
     same_after h legal T T' stands same (MessageGetsText by_history Cause at h (Faulty fault is_head) text) (is, refl)
 message_after Cause at h legal T T' stands (Whole request body) text (reply, is, replies) =
     let one = request_after Cause at h legal T T' stands request body (is_reading request.method) reply replies in
-    record { later = one.later; is = (reply, is, one.is); legal = one.legal; stands = one.stands }
+    record { later = one.later; is = (reply, is, one.is); shows = one.shows }
 
 input_after : (Cause : Type 0) (at : ℕ) (h : History) → IsLegal h → (T T' : Tables) → StandsFor T h → (given : Option Bytes) (text : Bytes)
     → InputGetsText by_tables Cause at T given text T' → After (InputGetsText by_history Cause at h given text) T'
 input_after Cause at h legal T T' stands given text (input, message, is_input, is_message, replies) =
     let one = message_after Cause at h legal T T' stands message text replies in
-    record { later = one.later; is = (input, message, is_input, is_message, one.is); legal = one.legal; stands = one.stands }
+    record { later = one.later; is = (input, message, is_input, is_message, one.is); shows = one.shows }
 
 -- if nothing fails
 pub faultless_after : (at : ℕ) (h : History) → IsLegal h → (T : Tables) → StandsFor T h → (given : Option Bytes) (text : Bytes)
@@ -116,17 +114,17 @@ faultless_after at h legal T stands given text reply =
 -- ---- the end of a connection by the tables is that by a history for which they stood
 
 pub reply_ends_by_history : (Cause : Type 0) (at : ℕ) (h : History) → IsLegal h → (T T' : Tables) → StandsFor T h → (given before after : Option Bytes) (result : Result (Unit {0}) IoEnd)
-    → ReplyEnds (λ text. InputGetsText by_tables Cause at T given text T') (T' ≡ T) before after result → ReplyEndsByHistory Cause at h given before after result T'
+    → ReplyEnds (λ text. InputGetsText by_tables Cause at T given text T') (T' ≡ T) before after result → StandsAfter by_history (EndsBy by_history Cause at given before after result h) T'
 reply_ends_by_history Cause at h legal T T' stands given before after (Ok done) (text, is, sends) =
     let one = input_after Cause at h legal T T' stands given text is in
-    record { later = one.later; ends = (text, one.is, sends); legal = one.legal; stands = one.stands }
+    record { later = one.later; is = (text, one.is, sends); shows = one.shows }
 reply_ends_by_history Cause at h legal T T' stands given before after (Err (WriteFault count)) (text, is, sends) =
     let one = input_after Cause at h legal T T' stands given text is in
-    record { later = one.later; ends = (text, one.is, sends); legal = one.legal; stands = one.stands }
+    record { later = one.later; is = (text, one.is, sends); shows = one.shows }
 reply_ends_by_history Cause at h legal T T' stands given before after (Err (Cut count)) (text, is, sends) =
     let one = input_after Cause at h legal T T' stands given text is in
-    record { later = one.later; ends = (text, one.is, sends); legal = one.legal; stands = one.stands }
+    record { later = one.later; is = (text, one.is, sends); shows = one.shows }
 reply_ends_by_history Cause at h legal T T' stands given before after (Err ReadFault) (same, kept) =
-    record { later = h; ends = (refl, kept); legal = legal; stands = subst (λ x. StandsFor x h) (sym same) stands }
+    record { later = h; is = (refl, kept); shows = (legal, subst (λ x. StandsFor x h) (sym same) stands) }
 reply_ends_by_history Cause at h legal T T' stands given before after (Err OutOfMemory) (same, kept) =
-    record { later = h; ends = (refl, kept); legal = legal; stands = subst (λ x. StandsFor x h) (sym same) stands }
+    record { later = h; is = (refl, kept); shows = (legal, subst (λ x. StandsFor x h) (sym same) stands) }

@@ -6,7 +6,7 @@ use Rattle.index_rules.specs.Tables.{Tables}
 use Rattle.index_rules.specs.declared.rows.FileRow.{FileRow}
 use Rattle.index_rules.specs.declared.books.Books.{Ghosts}
 use Rattle.index_desk.specs.Looks.{LooksAt}
-use Rattle.index_desk.specs.Pages.{text_in}
+use Rattle.index_caching.specs.Pages.{text_in}
 use Rattle.index_desk.specs.Projects.{project_rows_in}
 use Rattle.index_desk.specs.Rules.{by_tables}
 use Rattle.index_pages.specs.Pages.{project_page_of}

@@ -7,10 +7,8 @@ use Rattle.index_rules.specs.declared.answer.Fault.{Fault}
 use Rattle.index_rules.specs.Facts.{HasOneBearer}
 use Rattle.index_rules.specs.Maps.{Bytes}
 use Rattle.index_rules.specs.Tables.{Tables}
-use Rattle.index_rules.specs.History.{History}
-use Rattle.index_rules.specs.Legal.{IsLegal}
-use Rattle.index_rules.specs.StandsFor.{StandsFor}
-use Rattle.index_desk.specs.Rules.{by_history, by_tables}
+use Rattle.index_desk.specs.ByRules.{StandsAfter}
+use Rattle.index_desk.specs.Rules.{Rules, by_history, by_tables}
 use Rattle.index_desk.specs.Takes.{ByHistory}
 use Rattle.index_http.specs.Exchanges.{HasRequest, InputGetsText, IsFaultless}
 use Rattle.index_http.specs.Replies.{answer_reply, reply_text}
@@ -57,25 +55,21 @@ DeskRepliesByTables IsReply desk sink result =
     (Stands desk.books.IsHonest desk.books.tables desk.new (desk.books.tables desk.old))
     (sink.out.contents sink.old) (sink.out.contents sink.new) result
 
--- the tables stand for a legal history, and the connection ends as that history and the one before
--- it say
-pub record ReplyEndsByHistory (Cause : Type 0) (at : ℕ) (h : History)
-    (given before after : Option Bytes) (result : Result (Unit {0}) IoEnd) (T' : Tables)
-    : Type 0 where
-  pub later : History
-  pub ends : ReplyEnds (λ text. InputGetsText by_history Cause at h given text later)
-      (later ≡ h) before after result
-  pub legal : IsLegal later
-  pub stands : StandsFor T' later
+-- a connection ends as the state before it and the one after it say
+abbrev pub EndsBy : {S : Type 0} → Rules S → (Cause : Type 0) → ℕ
+    → (given before after : Option Bytes) → Result (Unit {0}) IoEnd → S → S → Type 0
+EndsBy rules Cause at given before after result s later =
+    ReplyEnds (λ text. InputGetsText rules Cause at s given text later) (later ≡ s)
+    before after result
 
--- `ReplyEndsByHistory` for each legal history for which the tables stood, if the store is honest at
--- the end
+-- each legal history for which the tables stood has a later one for which they stand, and the
+-- connection ends as the two say, if the store is honest at the end
 abbrev pub DeskRepliesByHistory : {S K : Type 0} → ℕ → Option Bytes
     → DeskStep S → SinkStep K → Result (Unit {0}) IoEnd → Type 0
 DeskRepliesByHistory at given desk sink result =
-    ByHistory desk.books desk.old desk.new (λ h. ReplyEndsByHistory
-    (HasFailed (desk.books.failures desk.old) (desk.books.failures desk.new)) at h given
-    (sink.out.contents sink.old) (sink.out.contents sink.new) result)
+    ByHistory desk.books desk.old desk.new (λ h. StandsAfter by_history (EndsBy by_history
+    (HasFailed (desk.books.failures desk.old) (desk.books.failures desk.new)) at given
+    (sink.out.contents sink.old) (sink.out.contents sink.new) result h))
 
 -- ---- failures
 

@@ -18,7 +18,7 @@ use Rattle.index_rules.specs.declared.call.Request.TheVariants.{Delete as Delete
 use Rattle.index_rules.specs.declared.rows.FileRow.{FileRow}
 use Rattle.index_rules.specs.declared.rows.NameRow.{NameRow}
 use Rattle.index_desk.specs.Rules.{Rules}
-use Rattle.index_desk.specs.declared.standing.Standing.{Standing}
+use Rattle.index_rules.specs.declared.standing.Standing.{Standing}
 use Rattle.index_json.specs.Requests.{request_of}
 use Rattle.index_json.specs.StandingText.{standing_text_of}
 use Rattle.index_io.specs.Bytes.{IsInput}

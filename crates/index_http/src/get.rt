@@ -18,7 +18,8 @@ use crate::reply::{
     refusal_reply,
 };
 use crate::send::{send_fault, send_reply};
-use index_desk::{CachesAnswers, Desk, PageKey};
+use index_caching::{CachesAnswers, PageKey, cache_body, cached_body};
+use index_desk::Desk;
 use index_io::Sink;
 use index_json::standing_text;
 use index_message::{Allowed, HttpRequest, MessageFault, Resource};
@@ -124,13 +125,13 @@ fn show_file<K: Sink, B: CachesAnswers>(
     ensures { LookShows (look_at_no_page is_head) (λ T. ShowsFile by_tables T file true)
         (at_desk B.Books desk.old desk.new) (to_sink K.Sink sink.old sink.new) result }
 {
-    if let Some(body) = desk.cached_body(&file) {
+    if let Some(body) = cached_body(desk, &file) {
         return send_reply(sink, is_head, file_reply(body.bytes()));
     }
     match desk.body(alloc, &file) {
         Ok(Some(body)) => {
             let sent = send_reply(sink, is_head, file_reply(body.bytes()));
-            desk.cache_body(file, body);
+            cache_body(desk, file, body);
             sent
         }
         Ok(None) => send_reply(sink, is_head, refusal_reply(Refusal::NoFile)),

@@ -1,12 +1,13 @@
 //! The two passes over the rows of a page: the first counts its bytes, the second sends them. Neither writes a head.
 ghost use Rattle.std.specs.Prelude.{◌≡◌};
-ghost use Rattle.index_desk.specs.Pages.{page_in};
+ghost use Rattle.index_caching.specs.Pages.{page_in};
 ghost use Rattle.index_http.specs.PagePasses.{MeasuresText, SendsPage, measured_by, sent_by};
 ghost use Rattle.index_http.specs.Steps.{at_desk, to_sink};
 
 use crate::connection::IoEnd;
 use crate::page_text::{TextEnd, write_page};
-use index_desk::{Desk, PageKey};
+use index_caching::PageKey;
+use index_desk::Desk;
 use index_io::{Output, Sink};
 use index_pages::{PageEnd, Served};
 use index_rules::{Books, Fault};

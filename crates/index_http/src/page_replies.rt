@@ -1,7 +1,7 @@
 //! Replies with a page. Their head has the page's length, so that is known before the text is sent.
 ghost use Rattle.std.specs.Prelude.{◌≡◌, ◌⊎◌, false, not};
 ghost use Rattle.index_desk.specs.Looks.{LeavesTables};
-ghost use Rattle.index_desk.specs.Pages.{page_in};
+ghost use Rattle.index_caching.specs.Pages.{page_in};
 ghost use Rattle.index_http.specs.PagePasses.{IsMeasured};
 ghost use Rattle.index_http.specs.PageShows.{PageShown, after_head};
 ghost use Rattle.index_http.specs.Replies.{page_reply, reply_text};
@@ -15,7 +15,8 @@ use crate::page_text::gathered_text;
 use crate::reply::{Fields, page_reply, refusal_reply};
 use crate::send::{send_fault, send_head, send_reply};
 use http::StatusCode;
-use index_desk::{CachesAnswers, Desk, PageKey};
+use index_caching::{CachesAnswers, PageKey, cache_page, cache_size, cached_page};
+use index_desk::Desk;
 use index_io::Sink;
 use index_pages::Served;
 use index_rules::{Books, Refusal};
@@ -33,14 +34,14 @@ pub fn show_page<K: Sink, B: CachesAnswers>(
     ensures { LookShows (look_at_page is_head) (λ T. PageShown served (page_in T served page.entry))
         (at_desk B.Books desk.old desk.new) (to_sink K.Sink sink.old sink.new) result }
 {
-    if let Some(text) = desk.cached_page(page, served) {
+    if let Some(text) = cached_page(desk, page, served) {
         return send_reply(sink, is_head, page_reply(served, text));
     }
-    let cache_size = desk.cache_size();
+    let cache_size = cache_size(desk);
     match gathered_text(alloc, desk, page, served, cache_size) {
         Ok(Some(text)) => {
             let sent = send_reply(sink, is_head, page_reply(served, text.as_slice()));
-            desk.cache_page(page, served, text);
+            cache_page(desk, page, served, text);
             sent
         }
         Ok(None) => show_in_passes(alloc, sink, desk, is_head, page, served),

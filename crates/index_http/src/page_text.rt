@@ -1,11 +1,12 @@
 //! The text of a page: written in one pass over its rows, or gathered in one before it is sent.
 ghost use Rattle.std.specs.Prelude.{◌≡◌, ◌≤◌, ◌+◌, [], length, max, min, true};
-ghost use Rattle.index_desk.specs.Pages.{page_in};
+ghost use Rattle.index_caching.specs.Pages.{page_in};
 ghost use Rattle.index_http.specs.PagePasses.{EndsText, Gathers, WritesPageIn, fault_in, fault_of};
 ghost use Rattle.index_http.specs.Steps.{at_desk, to_sink};
 ghost use Rattle.index_http.specs.declared.page_text.TheConstants.{GATHERED_AT_LEAST, MOST_GATHERED};
 
-use index_desk::{Desk, PageKey};
+use index_caching::PageKey;
+use index_desk::Desk;
 use index_io::{Failed, Sink};
 use index_pages::{Page, PageEnd, PageText, Served};
 use index_rules::{Books, Fault, WalkEnd};

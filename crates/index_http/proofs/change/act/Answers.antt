@@ -53,11 +53,11 @@ returns g c =
     let took = c.apply-answer.ensures.takes in
     record {
       tables = λ honest clean one.
-          let answers = answered _ c.apply-answer.result _ _ (took.settles.lasts clean) honest (λ then. took.verdict then one) in
+          let answers = answered _ c.apply-answer.result _ _ (took.settles.lasts clean) honest (λ then. ((took.taken then).tables one).0) in
           sent_ends _ _ _ _ _ _ (
             tables_after (g.B.Books.tables c.args.desk.now) c.in-Some.call c.apply-answer.result,
             (reply_of c.answer_reply.result, text, rw (c.requires, call) (c.apply-answer.result, reply, answers, refl, took.settles.store)),
-            λ then. took.next then one,
+            λ then. ((took.taken then).tables one).1,
           )
           c.send_reply-2.ensures.sent;
       asks = rw (c.requires, call) (sent_ends _ _ _ _ _ _ (c.apply-answer.result, text ∙ ap (reply_text (is_head c.args.request.now.method)) reply, took) c.send_reply-2.ensures.sent);

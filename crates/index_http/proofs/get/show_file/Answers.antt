@@ -17,33 +17,33 @@ returns-in-Some g c = record {
 pub returns-in-Ok-Some : goal.returns-in-Ok-Some
 returns-in-Ok-Some g c = record {
   shown = λ honest clean.
-      let body = rw c.in-Ok-Some.field-0-is at (c.in-Ok-Some.ensures.found (c.in-Ok-Some.ensures.look.lasts honest (c.cache_body.ensures.clean clean))).0 in
+      let body = rw c.in-Ok-Some.field-0-is at (c.in-Ok-Some.ensures.looks.found (c.in-Ok-Some.ensures.looks.look.lasts honest (c.cache_body.ensures.clean clean))) in
       shown_ends _ _ _ _ _ _ _ _ (c.file_reply-in-Ok-Some.ensures ∙ ap file_reply c.bytes-in-Ok-Some.ensures) (Some c.in-Ok-Some.body, body, refl) c.send_reply-sent.ensures.sent;
   leaves = search rules;
   sends = search rules;
   stores = λ is. absurd (sent_memory _ _ _ _ c.send_reply-sent.ensures.sent is);
   lasts = λ honest clean.
-      let then = c.in-Ok-Some.ensures.look.lasts honest (c.cache_body.ensures.clean clean) in
-      inl (c.cache_body.ensures.lasts then clean, c.cache_body.ensures.kept ∙ c.in-Ok-Some.ensures.look.kept);
+      let then = c.in-Ok-Some.ensures.looks.look.lasts honest (c.cache_body.ensures.clean clean) in
+      inl (c.cache_body.ensures.lasts then clean, c.cache_body.ensures.kept ∙ c.in-Ok-Some.ensures.looks.look.kept);
 }
 
 pub returns-in-Ok-None : goal.returns-in-Ok-None
 returns-in-Ok-None g c = record {
   shown = λ honest clean.
-      let none = rw c.in-Ok-None.field-0-is at (c.in-Ok-None.ensures.found (c.in-Ok-None.ensures.look.lasts honest clean)).0 in
+      let none = rw c.in-Ok-None.field-0-is at (c.in-Ok-None.ensures.looks.found (c.in-Ok-None.ensures.looks.look.lasts honest clean)) in
       shown_ends _ _ _ _ _ _ _ _ c.refusal_reply.ensures (None, none, refl) c.send_reply-in-Ok-None.ensures.sent;
   leaves = search rules;
   sends = search rules;
   stores = λ is. absurd (sent_memory _ _ _ _ c.send_reply-in-Ok-None.ensures.sent is);
-  lasts = λ honest clean. inl (c.in-Ok-None.ensures.look.lasts honest clean, c.in-Ok-None.ensures.look.kept);
+  lasts = λ honest clean. inl (c.in-Ok-None.ensures.looks.look.lasts honest clean, c.in-Ok-None.ensures.looks.look.kept);
 }
 
 pub returns-in-Err : goal.returns-in-Err
 returns-in-Err g c = record {
   shown = λ honest clean.
-      fault_ends _ _ _ _ _ _ _ (λ store. inr (c.in-Err.ensures.look.store store)) c.send_fault.ensures.told;
+      fault_ends _ _ _ _ _ _ _ (λ store. inr (c.in-Err.ensures.looks.look.store store)) c.send_fault.ensures.told;
   leaves = search rules;
   sends = search rules;
-  stores = fault_stores _ _ _ _ _ _ _ c.send_fault.ensures.told c.in-Err.ensures.look.stores;
+  stores = fault_stores _ _ _ _ _ _ _ c.send_fault.ensures.told c.in-Err.ensures.looks.look.stores;
   lasts = λ honest clean. inr (look_failed _ _ _ _ _ _ c.send_fault.ensures.told);
 }

@@ -1,6 +1,6 @@
 use Rattle.std.proofs.Common.{◌≡◌, ◌∙◌, ap, false, inl, inr, refl, rules, subst, Ok, Err}
 use Rattle.std.specs.Prelude.{is_err}
-use Rattle.index_desk.specs.Pages.{page_in}
+use Rattle.index_caching.specs.Pages.{page_in}
 use Rattle.index_http.specs.Replies.{page_reply}
 use Rattle.index_http.specs.PagePasses.{MeasuresPage}
 use Rattle.index_http.proofs.EndLemmas.{fault_ends, fault_memory, sent_memory, shown_ends}
