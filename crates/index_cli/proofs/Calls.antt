@@ -1,17 +1,8 @@
 -- What a crash may leave after the calls that lines or connections ask for.
 use Rattle.std.proofs.Common.{◌≡◌, ◌≤◌, ◌<◌, ℕ, refl, sym, ap, ◌∙◌, subst, List, [], ◌∷◌, ◌++◌, Option, Some, None, arith, append_assoc, append-nil, take_all}
 use Rattle.index_rules.specs.declared.answer.Answer.{Answer}
-use Rattle.index_rules.specs.declared.books.Books.{Ghosts}
 use Rattle.index_rules.specs.declared.call.Call.{Call}
-use Rattle.index_rules.specs.Facts.{HasOneBearer}
-use Rattle.index_rules.specs.Runs.{Runs}
 use Rattle.index_rules.specs.Tables.{Tables}
-use Rattle.index_rules.proofs.OneBearer.{HasOneBearer-Runs}
-use Rattle.index_rules.proofs.RunLemmas.{Runs-push}
-use Rattle.index_desk.specs.Crashes.{CallsLeaveTables}
-use Rattle.index_desk.specs.Looks.{LeavesTables}
-use Rattle.index_desk.proofs.CrashLemmas.{CallsLeaveTables-push}
-use Rattle.index_desk.specs.Takes.{Takes}
 use Rattle.index_http.proofs.AskLemmas.{asks_map}
 use Rattle.index_json.specs.Line.{line_of}
 use Rattle.index_json.specs.declared.line.Line.{Line}
@@ -24,44 +15,6 @@ use Rattle.index_cli.specs.LineCalls.{AsksKept, AsksLine, AsksOf, LineCallsLeave
 -- what calls and answers, or these and tables, may have to do with one another
 abbrev pub Leaving : Type 1
 Leaving = List Call → List Answer → Tables → Type 0
-
--- ---- calls that a desk took since it was as it was first
-
-module _ {S : Type 0} (g : Ghosts S) where
-  -- the tables are those after them, and a crash leaves what it may
-  pub record Taken (first now : S) (calls : List Call) (answers : List Answer) : Type 0 where
-    pub runs : g.IsHonest now → HasOneBearer (g.tables first) → Runs (g.tables first) calls answers (g.tables now)
-    pub left : g.IsHonest first → g.IsClean now → HasOneBearer (g.tables first) → (T : Tables) → g.may_leave now T → CallsLeaveTables (g.tables first) calls answers T
-
-  -- so of calls and answers, whatever the tables
-  abbrev pub by_taken : (first now : S) → Leaving
-  by_taken first now calls answers T = Taken first now calls answers
-
-  pub taken_none : (first : S) → (g.IsHonest first → (T : Tables) → g.may_leave first T → T ≡ g.tables first) → Taken first first [] []
-  taken_none first settled = record { runs = λ _ _. refl; left = λ honest _ _ T left. settled honest T left }
-
-  pub taken_look : (first now new : S) (calls : List Call) (answers : List Answer) → LeavesTables g now new
-      → Taken first now calls answers → Taken first new calls answers
-  taken_look first now new calls answers looked taken = record {
-    runs = λ honest one. subst (λ T. Runs (g.tables first) calls answers T) (sym (looked.unchanged honest)) (taken.runs (looked.honest honest) one);
-    left = λ honest clean one T left. taken.left honest (looked.clean clean) one T (looked.crash T left);
-  }
-
-  pub taken_call : (first now new : S) (calls : List Call) (answers : List Answer) (call : Call) (answer : Answer) → Takes g now new call answer
-      → Taken first now calls answers → Taken first new (calls ++ call ∷ []) (answers ++ answer ∷ [])
-  taken_call first now new calls answers call answer took taken =
-      let before = λ (then : g.IsHonest now) (one : HasOneBearer (g.tables first)).
-      HasOneBearer-Runs (g.tables first) one calls answers (g.tables now) (taken.runs then one) in
-      record {
-        runs = λ honest one.
-            let then = took.settles.honest honest in
-            Runs-push (g.tables first) calls answers (g.tables now) call answer (g.tables new) (taken.runs then one)
-            (took.verdict honest (before then one)) (took.next honest (before then one));
-        left = λ honest clean one T left.
-            CallsLeaveTables-push (g.tables first) calls answers (g.tables now) call answer (g.may_leave now) (g.IsHonest now) (g.IsHonest new) T
-            (λ then. taken.runs then one) (taken.left honest (took.settles.clean clean) one) (took.settles.lasts clean) took.settles.honest
-            (took.settles.nothing_new T left) (λ then. took.crash then clean (before then one) T left);
-      }
 
 -- ---- lines
 
@@ -100,28 +53,9 @@ LineCallsLeave-map Left Left' T T' f (line ∷ lines) text (first, more, is, ask
       asks,
 )
 
--- one more line
-pub LineCallsLeave-push : (Left Left' : Leaving) (T U : Tables) (line first : List ℕ)
-    → ((calls : List Call) (answers : List Answer) → Left calls answers T → AsksLine line first (Left' calls answers U) (λ call answer. Left' (calls ++ call ∷ []) (answers ++ answer ∷ []) U))
-    → (done : List (List ℕ)) (text : List ℕ) → LineCallsLeave Left done text T → LineCallsLeave Left' (done ++ line ∷ []) (text ++ (first ++ line_feed ∷ [])) U
-LineCallsLeave-push Left Left' T U line first step [] text (is, left) = (
-  first,
-  [],
-  ap (λ l. l ++ (first ++ line_feed ∷ [])) is ∙ sym (append-nil (first ++ line_feed ∷ [])),
-  asks_line_map line first _ _ _ _ (λ it. (refl, it)) (λ call answer it. (refl, it)) (step [] [] left),
-)
-LineCallsLeave-push Left Left' T U line first step (before ∷ done) text (earlier, more, is, asks) = (
-  earlier,
-  more ++ (first ++ line_feed ∷ []),
-  ap (λ l. l ++ (first ++ line_feed ∷ [])) is ∙ append_assoc (earlier ++ line_feed ∷ []) more (first ++ line_feed ∷ []),
-  asks_line_map before earlier _ _ _ _ (λ it. LineCallsLeave-push Left Left' T U line first step done more it)
-      (λ call answer it. LineCallsLeave-push (λ calls answers. Left (call ∷ calls) (answer ∷ answers)) (λ calls answers. Left' (call ∷ calls) (answer ∷ answers)) T U line first (λ calls answers. step (call ∷ calls) (answer ∷ answers)) done more it)
-      asks,
-)
-
 -- ---- connections
 
-asks_one_map : (exchange : Exchange) (L L' : Type 0) (K K' : Call → Answer → Type 0) → (L → L') → ((call : Call) (answer : Answer) → K call answer → K' call answer) → AsksOne exchange L K → AsksOne exchange L' K'
+pub asks_one_map : (exchange : Exchange) (L L' : Type 0) (K K' : Call → Answer → Type 0) → (L → L') → ((call : Call) (answer : Answer) → K call answer → K' call answer) → AsksOne exchange L K → AsksOne exchange L' K'
 asks_one_map exchange L L' K K' f k it = record {
   ended = it.ended;
   asks = asks_map L L' K K' exchange.had exchange.has it.ended f k exchange.at exchange.given it.asks;

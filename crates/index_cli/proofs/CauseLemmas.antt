@@ -8,7 +8,7 @@ use Rattle.index_rules.specs.declared.answer.Fault.{Fault}
 use Rattle.index_rules.specs.declared.answer.Fault.TheVariants.{OutOfMemory, Store}
 use Rattle.index_rules.specs.StoreFaults.{CountsStoreFault, answers_store_fault}
 use Rattle.index_rules.specs.Tables.{Tables}
-use Rattle.index_desk.specs.declared.standing.Standing.{Standing}
+use Rattle.index_rules.specs.declared.standing.Standing.{Standing}
 use Rattle.index_json.proofs.OnLiterals.{answers_on_literals}
 use Rattle.index_json.specs.AnswerText.{answer_text_of}
 use Rattle.index_json.specs.StandingText.{standing_text_of}

@@ -7,6 +7,7 @@ use Rattle.index_rules.specs.History.{History}
 use Rattle.index_rules.specs.StandsFor.{StandsFor}
 use Rattle.index_rules.specs.Legal.{history_after, IsLegal}
 use Rattle.index_rules.proofs.StandsOn.{CarriesOn-answer}
+use Rattle.index_desk.specs.ByRules.{StandsAfter}
 use Rattle.index_desk.specs.Rules.{by_history, by_tables}
 use Rattle.index_desk.proofs.RulesLemmas.{standing_by_history}
 use Rattle.index_json.specs.Line.{line_of}
@@ -14,7 +15,6 @@ use Rattle.index_json.specs.declared.line.Line.{Line}
 use Rattle.index_json.specs.declared.line.Line.TheVariants as line
 use Rattle.index_cli.specs.Lines.{longest_line}
 use Rattle.index_cli.specs.Telling.{TextAnswersLine, TextAnswersLines, TextAnswersParsedLine, TextAnswersStanding}
-use Rattle.index_cli.specs.LineHistories.{HistoryAnswersLines}
 
 standing_after : (h : History) (T : Tables) → StandsFor T h → (name : Option (List ℕ)) (text : List ℕ)
     → TextAnswersStanding by_tables T name text → TextAnswersStanding by_history h name text
@@ -24,69 +24,48 @@ standing_after h T stands (Some name) text (inl (standing, is, told)) =
 standing_after h T stands (Some name) text (inr fault) = inr fault
 
 -- one line: what was told, and the history for which the tables stand then
-record AfterAsked (asked : Option Line) (h : History) (text : List ℕ) (T' : Tables) : Type 0 where
-  after : History
-  told : TextAnswersParsedLine by_history asked h text after
-  legal : IsLegal after
-  stands : StandsFor T' after
-
 asked_after : (h : History) → IsLegal h → (T : Tables) → StandsFor T h → (asked : Option Line) (text : List ℕ) (T' : Tables)
-    → TextAnswersParsedLine by_tables asked T text T' → AfterAsked asked h text T'
+    → TextAnswersParsedLine by_tables asked T text T' → StandsAfter by_history (TextAnswersParsedLine by_history asked h text) T'
 asked_after h legal T stands None text T' (is, same) =
-    record { after = h; told = (is, refl); legal = legal; stands = subst (λ x. StandsFor x h) (sym same) stands }
+    record { later = h; is = (is, refl); shows = (legal, subst (λ x. StandsFor x h) (sym same) stands) }
 asked_after h legal T stands (Some (line.Call call)) text T' (answer, is, answers, next) =
     let on = CarriesOn-answer h legal T stands call answer T' (λ _. answers) (λ _. next) in
     record {
-      after = history_after h call answer;
-      told = (answer, is, on.verdict, refl);
-      legal = on.legal;
-      stands = on.stands;
+      later = history_after h call answer;
+      is = (answer, is, on.verdict, refl);
+      shows = (on.legal, on.stands);
     }
 asked_after h legal T stands (Some (line.Standing name)) text T' (tells, same) = record {
-  after = h;
-  told = (standing_after h T stands (read_name name) text tells, refl);
-  legal = legal;
-  stands = subst (λ x. StandsFor x h) (sym same) stands;
+  later = h;
+  is = (standing_after h T stands (read_name name) text tells, refl);
+  shows = (legal, subst (λ x. StandsFor x h) (sym same) stands);
 }
 
-pub record AfterLine (line : List ℕ) (h : History) (text : List ℕ) (T' : Tables) : Type 0 where
-  pub after : History
-  pub told : TextAnswersLine by_history line h text after
-  pub legal : IsLegal after
-  pub stands : StandsFor T' after
-
 pub line_after : (h : History) → IsLegal h → (T : Tables) → StandsFor T h → (line text : List ℕ) (T' : Tables)
-    → TextAnswersLine by_tables line T text T' → AfterLine line h text T'
+    → TextAnswersLine by_tables line T text T' → StandsAfter by_history (TextAnswersLine by_history line h text) T'
 line_after h legal T stands line text T' tells = elim (cases_lt longest_line (length line)) [
   | inr short ↦
       let one = asked_after h legal T stands (line_of line) text T' (tells.0 short) in
       record {
-        after = one.after;
-        told = (λ _. one.told, λ long. absurd (omega (arith, short, long)));
-        legal = one.legal;
-        stands = one.stands;
+        later = one.later;
+        is = (λ _. one.is, λ long. absurd (omega (arith, short, long)));
+        shows = one.shows;
       }
   | inl long ↦
       let one = asked_after h legal T stands None text T' (tells.1 long) in
       record {
-        after = one.after;
-        told = (λ short. absurd (omega (arith, short, long)), λ _. one.told);
-        legal = one.legal;
-        stands = one.stands;
+        later = one.later;
+        is = (λ short. absurd (omega (arith, short, long)), λ _. one.is);
+        shows = one.shows;
       }
 ]
 
-pub HistoryAnswersLines-TextAnswersLines : (h : History) → IsLegal h → (T : Tables) → StandsFor T h
+pub lines_after : (h : History) → IsLegal h → (T : Tables) → StandsFor T h
     → (lines : List (List ℕ)) (text : List ℕ) (T' : Tables)
-    → TextAnswersLines by_tables T lines text T' → HistoryAnswersLines h lines text T'
-HistoryAnswersLines-TextAnswersLines h legal T stands [] text T' (is, same) =
-    record { after = h; told = (is, refl); legal = legal; stands = subst (λ x. StandsFor x h) (sym same) stands }
-HistoryAnswersLines-TextAnswersLines h legal T stands (line ∷ lines) text T' (first, more, between, tells, told, is) =
+    → TextAnswersLines by_tables T lines text T' → StandsAfter by_history (TextAnswersLines by_history h lines text) T'
+lines_after h legal T stands [] text T' (is, same) =
+    record { later = h; is = (is, refl); shows = (legal, subst (λ x. StandsFor x h) (sym same) stands) }
+lines_after h legal T stands (line ∷ lines) text T' (first, more, between, tells, told, is) =
     let one = line_after h legal T stands line first between tells in
-    let rest = HistoryAnswersLines-TextAnswersLines one.after one.legal between one.stands lines more T' told in
-    record {
-      after = rest.after;
-      told = (first, more, one.after, one.told, rest.told, is);
-      legal = rest.legal;
-      stands = rest.stands;
-    }
+    let rest = lines_after one.later one.shows.0 between one.shows.1 lines more T' told in
+    record { later = rest.later; is = (first, more, one.later, one.is, rest.is, is); shows = rest.shows }

@@ -4,12 +4,12 @@ pub mod Progress
 pub mod RunEnds
 pub mod CauseLemmas
 pub mod Histories
-pub mod Crashes
 pub mod Choices
 pub mod ExchangeCauses
 pub mod FaultTexts
-pub mod Fronts
 pub mod Served
-pub mod ServedFronts
-pub mod DeskConnections
-pub mod DeskLines
+pub mod WentLemmas
+pub mod Clauses
+pub mod FilesServed
+pub mod LinesWentLemmas
+pub mod LineClauses

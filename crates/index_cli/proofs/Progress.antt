@@ -56,11 +56,6 @@ TextAnswersLines-push S T U (before ∷ done) text line first (earlier, more, be
   ap (λ l. l ++ (first ++ line_feed ∷ [])) is ∙ append_assoc (earlier ++ line_feed ∷ []) more (first ++ line_feed ∷ []),
 )
 
-pub lines_push : (S T U : Tables) (size : ℕ) (kept first : List ℕ) → KeptLineIsAnswered size kept T first U
-    → Pushes (TextAnswersLines by_tables S) (TextAnswersLines by_tables S) T U size kept first
-lines_push S T U size kept first tells done text line sized front told =
-    TextAnswersLines-push S T U done text line first told (tells line sized front)
-
 -- the lines so far were told of: of a reader (a to b), of a writer (w0 to w1), and these tables
 pub record Progress (tells : Telling) (T : Tables) (a b w0 w1 : Option (List ℕ)) (count : ℕ) : Type 0 where
   pub done : List (List ℕ)

@@ -2,23 +2,11 @@
 use Rattle.std.proofs.Common.{◌≡◌, ℕ, List, [], ◌∷◌, Option, Some, None, Err, inl, refl, subst, sym}
 use Rattle.std.specs.Prelude.{IfSome, unwrap_or}
 use Rattle.index_rules.specs.declared.books.Books.{Ghosts}
-use Rattle.index_rules.specs.History.{History}
-use Rattle.index_rules.specs.Tables.{Tables}
-use Rattle.index_desk.specs.Rules.{Rules}
 use Rattle.index_http.specs.declared.connection.IoEnd.TheVariants.{OutOfMemory}
 use Rattle.index_cli.specs.Connections.{AreOn, Came, Closed, Exchange, IsRest, IsUnsent, KnownList, KnownReplies, Loses, no_faults}
 use Rattle.index_http.specs.Steps.{at_desk}
 use Rattle.index_cli.specs.Steps.{on_connections}
-use Rattle.index_cli.specs.Serving.{DeskAnswersExchange, NextConnectionIsAnswered, Serves, ServesByHistory}
-
--- ---- connections of one kind are of another
-
-module _ (Are Are' : List Exchange → Type 0) (f : (exchanges : List Exchange) → Are exchanges → Are' exchanges) where
-  pub serves_are : {S : Type 0} (rules : Rules S) (given : Option ℕ) (count : ℕ) (s s' : S) → Serves Are rules given count s s' → Serves Are' rules given count s s'
-  serves_are rules given count s s' it = record { exchanges = it.exchanges; are = f it.exchanges it.are; answered = it.answered; counted = it.counted; are_given = it.are_given }
-
-  pub history_are : (h : History) (given : Option ℕ) (count : ℕ) (T : Tables) → ServesByHistory Are h given count T → ServesByHistory Are' h given count T
-  history_are h given count T it = record { later = it.later; serves = serves_are _ given count h it.later it.serves; legal = it.legal; stands = it.stands }
+use Rattle.index_cli.specs.Serving.{DeskAnswersExchange, NextConnectionIsAnswered}
 
 -- ---- connections so far
 
@@ -52,9 +40,8 @@ unasked g s at given = record {
   tables = λ honest one. record { failures = 0; later_failures = 0; ended = Err OutOfMemory; ends = (refl, refl); cause = tt };
   history = λ honest h legal stands. record {
     later = h;
-    answers = record { failures = 0; later_failures = 0; ended = Err OutOfMemory; ends = (refl, refl); cause = tt };
-    legal = legal;
-    stands = stands;
+    is = record { failures = 0; later_failures = 0; ended = Err OutOfMemory; ends = (refl, refl); cause = tt };
+    shows = (legal, stands);
   };
   lasts = λ honest clean one. inl (honest, refl);
   asks = record {

@@ -5,7 +5,7 @@ use Rattle.index_rules.specs.declared.answer.Answer.{Answer}
 use Rattle.index_rules.specs.declared.answer.Answer.TheVariants as answer
 use Rattle.index_rules.specs.declared.answer.Fault.TheVariants.{OutOfMemory, Store}
 use Rattle.index_rules.specs.StoreFaults.{CountsStoreFault}
-use Rattle.index_desk.specs.declared.standing.Standing.{Standing}
+use Rattle.index_rules.specs.declared.standing.Standing.{Standing}
 use Rattle.index_json.specs.AnswerText.{answer_text_of, bad_body_text}
 use Rattle.index_json.specs.StandingText.{standing_text_of}
 use Rattle.index_cli.specs.Ends.{Telling}

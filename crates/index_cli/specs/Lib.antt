@@ -1,7 +1,6 @@
 -- Lines in, lines out, and connections.
 pub mod Lines
 pub mod Telling
-pub mod LineHistories
 pub mod LineCalls
 pub mod Connections
 pub mod Steps
@@ -11,7 +10,10 @@ pub mod Replies
 pub mod Causes
 pub mod Serving
 pub mod ServesFront
+pub mod Went
+pub mod LinesWent
 pub mod DeskAnswers
+pub mod FilesServed
 pub mod Waiting
 pub mod InMemory
 pub mod Printed

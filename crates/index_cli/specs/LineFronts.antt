@@ -10,7 +10,6 @@ use Rattle.index_rules.specs.StandsFor.{StandsFor}
 use Rattle.index_rules.specs.Tables.{Tables}
 use Rattle.index_desk.specs.Rules.{Rules}
 use Rattle.index_json.specs.AnswerText.{answer_text_of}
-use Rattle.index_cli.specs.Ends.{Telling}
 use Rattle.index_cli.specs.Lines.{line_feed}
 use Rattle.index_cli.specs.Telling.{TextAnswersLine, TextAnswersLines}
 use Rattle.index_cli.specs.LineCalls.{AsksLine}
@@ -36,8 +35,8 @@ TextAnswersToFault {S} rules s (line ∷ lines) text = (first : List ℕ) × (mo
     × (TextAnswersToFault rules between lines more ⊎ (IsFaultText first × AcceptsNone lines more))
 
 -- all lines were answered by the rules, or those up to a fault
-abbrev pub TextAnswersFront : {S : Type 0} → Rules S → S → Telling
-TextAnswersFront {S} rules s lines text T =
+abbrev pub TextAnswersFront : {S : Type 0} → Rules S → S → List (List ℕ) → List ℕ → Type 0
+TextAnswersFront {S} rules s lines text =
     ((s' : S) × TextAnswersLines rules s lines text s') ⊎ TextAnswersToFault rules s lines text
 
 -- ---- clauses that hold also after a fault has shut the store

@@ -11,6 +11,7 @@ use Rattle.index_rules.specs.Tables.{Tables}
 use Rattle.index_rules.specs.History.{History}
 use Rattle.index_rules.specs.Legal.{IsLegal}
 use Rattle.index_rules.specs.StandsFor.{StandsFor}
+use Rattle.index_desk.specs.ByRules.{StandsAfter}
 use Rattle.index_desk.specs.Invariants.{KeepsInvariants}
 use Rattle.index_desk.specs.Looks.{LeavesTables}
 use Rattle.index_desk.specs.Rules.{Rules, by_history, by_tables}
@@ -75,13 +76,6 @@ pub record Serves {S : Type 0} (Are : List Exchange → Type 0) (rules : Rules S
   pub counted : length exchanges ≡ count
   pub are_given : AllByRecursion (λ exchange. IfSome given (λ it. exchange.at ≡ it)) exchanges
 
--- the tables stand for a legal history that one exchange makes of another history
-pub record OneHistory (h : History) (exchange : Exchange) (T' : Tables) : Type 0 where
-  pub later : History
-  pub answers : ExchangeIsAnswered by_history exchange h later
-  pub legal : IsLegal later
-  pub stands : StandsFor T' later
-
 -- the tables stand for a legal history that this many exchanges make of another history
 pub record ServesByHistory (Are : List Exchange → Type 0) (h : History)
     (given : Option ℕ) (count : ℕ) (T' : Tables) : Type 0 where
@@ -103,7 +97,8 @@ pub record DeskAnswersExchange {S : Type 0} (g : Ghosts S) (old new : S) (exchan
   -- the tables follow the reply
   pub tables : ByTables g old new (ExchangeIsAnswered by_tables exchange)
   -- a legal history of the tables goes on with the accepted call
-  pub history : ByHistory g old new (λ h. OneHistory h exchange)
+  pub history : ByHistory g old new
+      (λ h. StandsAfter by_history (ExchangeIsAnswered by_history exchange h))
   -- at most one call was asked of the desk
   pub asks : AsksOne exchange (LeavesTables g old new) (Takes g old new)
   -- a store that was honest and is clean is still honest and none of its calls failed, or the

@@ -7,7 +7,7 @@ use Rattle.index_rules.specs.declared.answer.Answer.TheVariants as answer
 use Rattle.index_rules.specs.declared.answer.Fault.{Fault}
 use Rattle.index_rules.specs.declared.answer.Refusal.TheVariants.{BadName}
 use Rattle.index_rules.specs.Runs.{Answers}
-use Rattle.index_desk.specs.declared.standing.Standing.{Standing}
+use Rattle.index_rules.specs.declared.standing.Standing.{Standing}
 use Rattle.index_desk.specs.Rules.{Rules}
 use Rattle.index_json.specs.AnswerText.{answer_text_of, bad_body_text}
 use Rattle.index_json.specs.StandingText.{standing_text_of}

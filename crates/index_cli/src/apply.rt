@@ -3,7 +3,7 @@ ghost use Rattle.std.specs.Prelude.{ℕ};
 ghost use Rattle.index_desk.specs.Invariants.{KeepsInvariants};
 ghost use Rattle.index_http.specs.Steps.{at_desk, to_sink};
 ghost use Rattle.index_cli.specs.Causes.{HaveCounted, HaveFailed, LinesReportFaults};
-ghost use Rattle.index_cli.specs.DeskAnswers.{DeskAnswersLines};
+ghost use Rattle.index_cli.specs.DeskAnswers.{by_desk};
 ghost use Rattle.index_cli.specs.Ends.{RunEnds, RunFailsOnly};
 ghost use Rattle.index_cli.specs.Lines.{Charges};
 ghost use Rattle.index_message.specs.Reads.{from_source};
@@ -36,8 +36,9 @@ pub fn apply_lines<S: Source, K: Sink, B: Books>(
 ) -> Result<u64, LineEnd>
     // The answers and the tables, by the tables before and by each legal history of them; up to a fault, if one has shut
     // the store; and what a crash leaves.
-    ensures answers { DeskAnswersLines (at_desk B.Books desk.old desk.new) (RunEnds
-        (from_source S.Source source.old source.new) (to_sink K.Sink sink.old sink.new) result) }
+    ensures answers { RunEnds (from_source S.Source source.old source.new)
+        (to_sink K.Sink sink.old sink.new) result
+        (by_desk (at_desk B.Books desk.old desk.new)) (B.tables desk.new) }
 
     // Each fault of the store that a line reports has a call of the store that failed.
     ensures store { (faults : ℕ) × HaveFailed faults (B.failures desk.old) (B.failures desk.new)

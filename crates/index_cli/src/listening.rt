@@ -29,7 +29,7 @@ const MOST_WAITING: usize = 512;
 pub struct Listening {
     listener: TcpListener,
     waiting: VecDeque<TcpStream>,
-    /// Whether the next connection could not be accepted. Only clauses read it.
+    /// Whether the next connection could not be accepted.
     has_failed: bool,
 }
 
@@ -41,6 +41,13 @@ impl Listening {
             waiting: VecDeque::new(alloc),
             has_failed: false,
         }
+    }
+
+    /// Whether the next connection could not be accepted.
+    pub fn has_failed(&self) -> bool
+        ensures { result ≡ self.now.has_failed }
+    {
+        self.has_failed
     }
 }
 

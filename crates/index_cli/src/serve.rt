@@ -12,7 +12,8 @@ ghost use Rattle.index_cli.specs.Steps.{on_connections};
 
 use crate::connections::{Connection, Connections};
 use crate::end::ServeEnd;
-use index_desk::{CachesAnswers, Desk};
+use index_caching::CachesAnswers;
+use index_desk::Desk;
 use index_http::{IoEnd, answer_one};
 use index_io::{Sink, Source};
 use index_message::Site;

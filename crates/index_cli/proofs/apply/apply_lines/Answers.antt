@@ -1,13 +1,10 @@
 use Rattle.std.proofs.Common.{◌≡◌, ◌≢◌, ◌∙◌, ◌+◌, inl, inr, refl, Ok, Err, arith, rules}
 use Rattle.index_desk.proofs.InvariantLemmas.{keeps_on}
 use Rattle.index_cli.specs.declared.end.LineEnd.TheVariants.{ReadFault, WriteFault}
-use Rattle.index_cli.proofs.Calls.{taken_none}
 use Rattle.index_cli.proofs.CauseLemmas.{HaveFailed-push, counted_push, faults_before, faults_push, none_failed}
-use Rattle.index_cli.proofs.Crashes.{lines_crash, taken_push}
-use Rattle.index_cli.proofs.DeskLines.{desk_answers_lines}
 use Rattle.index_cli.proofs.Cuts.{Charges-trans, PartIsTaken-none}
-use Rattle.index_cli.proofs.Fronts.{front_none, front_push, lines_front}
-use Rattle.index_cli.proofs.Progress.{Progress-during, Progress-none, Progress-part, Progress-push, Progress-taken, Progress-whole, lines_push}
+use Rattle.index_cli.proofs.LinesWentLemmas.{leaves_none, lines_end, lines_none, lines_push}
+use Rattle.index_cli.proofs.Progress.{Progress-during, Progress-none, Progress-part, Progress-push, Progress-taken, Progress-whole}
 use Rattle.index_cli.proofs.RunEnds.{LinesEnd-before, failed_or_spent}
 use Rattle.index_cli.proofs.apply.apply_lines.Goals as goal
 
@@ -15,9 +12,7 @@ use Rattle.index_cli.proofs.apply.apply_lines.Goals as goal
 
 pub loop-count-init : goal.loop-count-init
 loop-count-init g c = record {
-  progress = search rules;
-  fronts = Progress-none _ _ _ _ (front_none _ _);
-  called = Progress-none _ _ _ _ (refl, taken_none _ _ (g.met.B.Books.settled _));
+  answered = Progress-none _ _ _ _ (lines_none _ g.met.B.Books.settled _);
   faults = (0, none_failed _ _ (inl refl), Progress-none _ _ _ _ (refl, refl));
   counted = (0, inl (omega arith), Progress-none _ _ _ _ (refl, refl));
   charged = search rules;
@@ -31,26 +26,11 @@ loop-count-init g c = record {
 
 pub returns-in_err-size-clause-answers : goal.returns-in_err-size-clause-answers
 returns-in_err-size-clause-answers g c =
-    desk_answers_lines g.B.Books _ _ _ _ _ _ c.from_residual.result
-    (λ honest one.
     let is : c.from_residual.result ≡ Err c.in_err-size.field-0.0 = search rules in
     let other : c.from_residual.result ≢ Err WriteFault = search rules in
-    LinesEnd-before _ _ _ _ _ _ c.from_residual.result c.in_err-size.field-0.0 is other
-    (Progress-part _ _ _ _ _ _ _ _ (c.loop-count.invariant.progress honest one) c.in_err-size.ensures.part))
-    (λ honest clean one.
-    let is : c.from_residual.result ≡ Err c.in_err-size.field-0.0 = search rules in
-    let other : c.from_residual.result ≢ Err WriteFault = search rules in
-    let B = g.B.Books in
-    lines_front B _ _ honest clean one _ _ _ _ _ _ _
+    lines_end g.B.Books _ _ _ (leaves_none _ _) _ _ _ _ _ _ c.from_residual.result
     (LinesEnd-before _ _ _ _ _ _ c.from_residual.result c.in_err-size.field-0.0 is other
-    (Progress-part _ _ _ _ _ _ _ _ c.loop-count.invariant.fronts c.in_err-size.ensures.part)))
-    (λ honest clean one T left.
-    let is : c.from_residual.result ≡ Err c.in_err-size.field-0.0 = search rules in
-    let other : c.from_residual.result ≢ Err WriteFault = search rules in
-    let B = g.B.Books in
-    lines_crash B _ _ honest clean one T left _ _ _ _ _ _
-    (LinesEnd-before _ _ _ _ _ _ c.from_residual.result c.in_err-size.field-0.0 is other
-    (Progress-part _ _ _ _ _ _ _ _ c.loop-count.invariant.called c.in_err-size.ensures.part)))
+    (Progress-part _ _ _ _ _ _ _ _ c.loop-count.invariant.answered c.in_err-size.ensures.part))
 
 pub returns-in_err-size-clause-fails : goal.returns-in_err-size-clause-fails
 returns-in_err-size-clause-fails g c = record {
@@ -93,20 +73,9 @@ returns-in_err-size-clause-stores g c =
 
 pub returns-in_default-clause-answers : goal.returns-in_default-clause-answers
 returns-in_default-clause-answers g c =
-    desk_answers_lines g.B.Books _ _ _ _ _ _ (Ok _)
-    (λ honest one.
     let end = rw c.in_default.is at c.in_ok-size.ensures.line in
-    Progress-whole _ _ _ _ _ _ _ _ (c.loop-count.invariant.progress honest one) end.0 end.1)
-    (λ honest clean one.
-    let end = rw c.in_default.is at c.in_ok-size.ensures.line in
-    let B = g.B.Books in
-    lines_front B _ _ honest clean one _ _ _ _ _ _ (Ok _)
-    (Progress-whole _ _ _ _ _ _ _ _ c.loop-count.invariant.fronts end.0 end.1))
-    (λ honest clean one T left.
-    let end = rw c.in_default.is at c.in_ok-size.ensures.line in
-    let B = g.B.Books in
-    lines_crash B _ _ honest clean one T left _ _ _ _ _ (Ok _)
-    (Progress-whole _ _ _ _ _ _ _ _ c.loop-count.invariant.called end.0 end.1))
+    lines_end g.B.Books _ _ _ (leaves_none _ _) _ _ _ _ _ _ (Ok _)
+    (Progress-whole _ _ _ _ _ _ _ _ c.loop-count.invariant.answered end.0 end.1)
 
 pub returns-in_default-clause-store : goal.returns-in_default-clause-store
 returns-in_default-clause-store g c =
@@ -124,32 +93,11 @@ returns-in_default-clause-stores g c =
 
 pub returns-in_err-reply-clause-answers : goal.returns-in_err-reply-clause-answers
 returns-in_err-reply-clause-answers g c =
-    desk_answers_lines g.B.Books c.args.desk.now c.reply_to.new.desk
-    (g.S.Source.remaining c.args.source.now) (g.S.Source.remaining c.next_line.new.source)
-    (g.K.Sink.contents c.args.sink.now) (g.K.Sink.contents c.loop-count.sink) c.from_residual-in_err-reply.result
-    (λ honest one.
     let is : c.from_residual-in_err-reply.result ≡ Err c.in_err-reply.field-0.0 = search rules in
     let other : c.from_residual-in_err-reply.result ≢ Err WriteFault = search rules in
-    LinesEnd-before _ _ _ _ _ _ c.from_residual-in_err-reply.result c.in_err-reply.field-0.0 is other
-    (rw (c.in_err-reply.ensures.leaves.unchanged honest)
-    (Progress-taken _ _ _ _ _ _ _ _ c.in-Some.size _ (c.loop-count.invariant.progress (c.reply_to.ensures.keeps.honest honest) one)
-    (rw c.in-Some.is at c.in_ok-size.ensures.line))))
-    (λ honest clean one.
-    let is : c.from_residual-in_err-reply.result ≡ Err c.in_err-reply.field-0.0 = search rules in
-    let other : c.from_residual-in_err-reply.result ≢ Err WriteFault = search rules in
-    let leaves = c.in_err-reply.ensures.leaves in
-    let B = g.B.Books in
-    lines_front B _ c.loop-count.desk honest (leaves.clean clean) one _ _ _ _ _ _ _
+    lines_end g.B.Books _ c.loop-count.desk _ c.in_err-reply.ensures.leaves _ _ _ _ _ _ c.from_residual-in_err-reply.result
     (LinesEnd-before _ _ _ _ _ _ c.from_residual-in_err-reply.result c.in_err-reply.field-0.0 is other
-    (Progress-taken _ _ _ _ _ _ _ _ c.in-Some.size _ c.loop-count.invariant.fronts (rw c.in-Some.is at c.in_ok-size.ensures.line))))
-    (λ honest clean one T left.
-    let is : c.from_residual-in_err-reply.result ≡ Err c.in_err-reply.field-0.0 = search rules in
-    let other : c.from_residual-in_err-reply.result ≢ Err WriteFault = search rules in
-    let leaves = c.in_err-reply.ensures.leaves in
-    let B = g.B.Books in
-    lines_crash B _ _ honest (leaves.clean clean) one T (leaves.crash T left) _ _ _ _ _ _
-    (LinesEnd-before _ _ _ _ _ _ c.from_residual-in_err-reply.result c.in_err-reply.field-0.0 is other
-    (Progress-taken _ _ _ _ _ _ _ _ c.in-Some.size _ c.loop-count.invariant.called (rw c.in-Some.is at c.in_ok-size.ensures.line))))
+    (Progress-taken _ _ _ _ _ _ _ _ c.in-Some.size _ c.loop-count.invariant.answered (rw c.in-Some.is at c.in_ok-size.ensures.line)))
 
 pub returns-in_err-reply-clause-store : goal.returns-in_err-reply-clause-store
 returns-in_err-reply-clause-store g c =
@@ -184,33 +132,16 @@ returns-in_err-reply-clause-limit g c =
 
 pub returns-in_default-write_line-clause-answers : goal.returns-in_default-write_line-clause-answers
 returns-in_default-write_line-clause-answers g c =
-    desk_answers_lines g.B.Books _ _ _ _ _ _ (Err WriteFault)
-    (λ honest one.
-    let honest_then = c.reply_to.ensures.keeps.honest honest in
-    let front = c.in_default-write_line.ensures.front in
-    Progress-during _ _ _ _ _ _ _ _ _ _ _ c.in-Some.size _ _ _ (c.loop-count.invariant.progress honest_then one)
-    (rw c.in-Some.is at c.in_ok-size.ensures.line)
-    (lines_push _ _ _ _ _ _ (rw c.as_slice.ensures.value at (c.in_ok-reply.ensures.reply honest (c.loop-count.invariant.keeps.one_bearer honest_then one))))
-    front.0 front.1)
-    (λ honest clean one.
     let front = c.in_default-write_line.ensures.front in
     let B = g.B.Books in
     let reply = rw c.as_slice.ensures.value at c.in_ok-reply.ensures.reply in
     let lasts = rw c.as_slice.ensures.value at c.in_ok-reply.ensures.lasts in
     let asks = rw c.as_slice.ensures.value at c.in_ok-reply.ensures.asks in
-    lines_front B _ c.reply_to.new.desk honest clean one (B.tables c.reply_to.new.desk) _ _ _ _ _ (Err WriteFault)
-    (Progress-during _ _ _ _ _ _ _ _ _ _ _ c.in-Some.size _ _ _ c.loop-count.invariant.fronts
+    lines_end B _ c.reply_to.new.desk _ (leaves_none _ _) (B.tables c.reply_to.new.desk) _ _ _ _ _ (Err WriteFault)
+    (Progress-during _ _ _ _ _ _ _ _ _ _ _ c.in-Some.size _ _ _ c.loop-count.invariant.answered
     (rw c.in-Some.is at c.in_ok-size.ensures.line)
-    (front_push B _ _ _ (B.tables c.loop-count.desk) (B.tables c.reply_to.new.desk) _ _ _ c.loop-count.invariant.keeps c.reply_to.ensures.keeps reply lasts asks)
-    front.0 front.1))
-    (λ honest clean one T left.
-    let front = c.in_default-write_line.ensures.front in
-    let B = g.B.Books in
-    lines_crash B _ _ honest clean one T left (B.tables c.reply_to.new.desk) _ _ _ _ (Err WriteFault)
-    (Progress-during _ _ _ _ _ _ _ _ _ _ _ c.in-Some.size _ _ _ c.loop-count.invariant.called
-    (rw c.in-Some.is at c.in_ok-size.ensures.line)
-    (taken_push B _ _ _ _ (B.tables c.reply_to.new.desk) _ _ _ (rw c.as_slice.ensures.value at c.in_ok-reply.ensures.asks))
-    front.0 front.1))
+    (lines_push B g.met.B.Books.settled _ _ _ (B.tables c.loop-count.desk) (B.tables c.reply_to.new.desk) _ _ _ c.loop-count.invariant.keeps c.reply_to.ensures.keeps reply lasts asks)
+    front.0 front.1)
 
 pub returns-in_default-write_line-clause-store : goal.returns-in_default-write_line-clause-store
 returns-in_default-write_line-clause-store g c =
@@ -260,23 +191,13 @@ loop-count-preserved g c =
     let B = g.B.Books in
     let invariant = c.loop-count.invariant in
     record {
-      progress = λ honest one.
-          let honest_then = c.reply_to.ensures.keeps.honest honest in
-          Progress-push _ _ _ _ _ _ _ _ _ _ _ c.in-Some.size _ _ (invariant.progress honest_then one)
-          (rw c.in-Some.is at c.in_ok-size.ensures.line)
-          (lines_push _ _ _ _ _ _ (rw c.as_slice.ensures.value at (c.in_ok-reply.ensures.reply honest (invariant.keeps.one_bearer honest_then one))))
-          c.in-Ok.ensures.whole;
-      fronts =
+      answered =
           let reply = rw c.as_slice.ensures.value at c.in_ok-reply.ensures.reply in
           let lasts = rw c.as_slice.ensures.value at c.in_ok-reply.ensures.lasts in
           let asks = rw c.as_slice.ensures.value at c.in_ok-reply.ensures.asks in
-          Progress-push _ _ _ _ _ _ _ _ _ _ _ c.in-Some.size _ _ invariant.fronts
+          Progress-push _ _ _ _ _ _ _ _ _ _ _ c.in-Some.size _ _ invariant.answered
           (rw c.in-Some.is at c.in_ok-size.ensures.line)
-          (front_push B _ _ _ (B.tables c.loop-count.desk) (B.tables c.reply_to.new.desk) _ _ _ invariant.keeps c.reply_to.ensures.keeps reply lasts asks)
-          c.in-Ok.ensures.whole;
-      called = Progress-push _ _ _ _ _ _ _ _ _ _ _ c.in-Some.size _ _ invariant.called
-          (rw c.in-Some.is at c.in_ok-size.ensures.line)
-          (taken_push B _ _ _ _ _ _ _ _ (rw c.as_slice.ensures.value at c.in_ok-reply.ensures.asks))
+          (lines_push B g.met.B.Books.settled _ _ _ (B.tables c.loop-count.desk) (B.tables c.reply_to.new.desk) _ _ _ invariant.keeps c.reply_to.ensures.keeps reply lasts asks)
           c.in-Ok.ensures.whole;
       faults = let causes = c.in_ok-reply.ensures.causes.told in (
         invariant.faults.0 + causes.0,
@@ -306,17 +227,8 @@ loop-count-preserved g c =
 
 pub returns-clause-answers : goal.returns-clause-answers
 returns-clause-answers g c =
-    desk_answers_lines g.B.Books _ _ _ _ _ _ (Err ReadFault)
-    (λ honest one.
-    Progress-part _ _ _ _ _ _ _ _ (c.loop-count.invariant.progress honest one) (PartIsTaken-none _))
-    (λ honest clean one.
-    let B = g.B.Books in
-    lines_front B _ _ honest clean one _ _ _ _ _ _ (Err ReadFault)
-    (Progress-part _ _ _ _ _ _ _ _ c.loop-count.invariant.fronts (PartIsTaken-none _)))
-    (λ honest clean one T left.
-    let B = g.B.Books in
-    lines_crash B _ _ honest clean one T left _ _ _ _ _ (Err ReadFault)
-    (Progress-part _ _ _ _ _ _ _ _ c.loop-count.invariant.called (PartIsTaken-none _)))
+    lines_end g.B.Books _ _ _ (leaves_none _ _) _ _ _ _ _ _ (Err ReadFault)
+    (Progress-part _ _ _ _ _ _ _ _ c.loop-count.invariant.answered (PartIsTaken-none _))
 
 pub returns-clause-store : goal.returns-clause-store
 returns-clause-store g c =

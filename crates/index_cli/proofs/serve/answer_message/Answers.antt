@@ -21,15 +21,14 @@ returns g c =
           let it = one.history honest h legal stands in
           record {
             later = it.later;
-            answers = record {
+            is = record {
               failures = B.failures c.args.desk.now;
               later_failures = B.failures c.answer_one.new.desk;
               ended = c.answer_one.result;
-              ends = it.ends;
+              ends = it.is;
               cause = caused;
             };
-            legal = it.legal;
-            stands = it.stands;
+            shows = it.shows;
           };
       asks = record { ended = c.answer_one.result; asks = one.asks; cause = caused };
       lasts = λ honest clean bearer. elim (one.lasts honest clean) [
