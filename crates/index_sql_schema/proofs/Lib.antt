@@ -58,6 +58,7 @@ pub mod SelectCase
 pub mod SelectBan
 pub mod SelectOwners
 pub mod SelectNames
+pub mod SelectBodies
 pub mod SelectFiles
 pub mod PlainLemmas
 pub mod LookLemmas

@@ -1,5 +1,5 @@
 -- What looks leave: one by what the port says of a query, and several one after another.
-use Rattle.std.proofs.Common.{◌≡◌, ◌≤◌, ◌∙◌, ℕ, Bool, true, false, true≢false, List, IsTrue, IsSome, Some, inl, inr, refl, sym, subst, arith}
+use Rattle.std.proofs.Common.{◌≡◌, ◌≤◌, ◌∙◌, ℕ, Bool, true, false, true≢false, List, IsTrue, IsSome, inl, inr, refl, sym, subst, arith}
 use Rattle.std.proofs.lemmas.Bool.{cases_Bool}
 use Rattle.sqlite_disk.specs.Disk.{MoreFaults}
 use Rattle.sqlite_trees.specs.declared.error.StoreError.{StoreError}
@@ -8,14 +8,13 @@ use Rattle.sqlite_trees.specs.declared.store.Store.{Ghosts}
 use Rattle.sqlite_trees.specs.Tree.{Trees}
 use Rattle.sqlite_value.specs.Order.{Row}
 use Rattle.sqlite.specs.declared.error.Error.{Error}
-use Rattle.sqlite.specs.Effect.{Database}
 use Rattle.sqlite.specs.Held.{Held, state}
 use Rattle.sqlite.specs.Listing.{understood}
 use Rattle.sqlite.specs.State.{State, HasCleanDisk, Survives, CommitsShowing, Shown, FailsToQuery, HasCause, store_error}
 use Rattle.sqlite.proofs.Callers.{IsPlain}
 use Rattle.sqlite.proofs.StateLemmas.{survives_then, survives_weaker}
 use Rattle.index_sql_schema.specs.Schema.{index_schema}
-use Rattle.index_sql_schema.specs.Index.{IsIndex, version_in}
+use Rattle.index_sql_schema.specs.Index.{IsIndex}
 use Rattle.index_sql_schema.specs.Unchanged.{IsUnchangedIfOpen}
 use Rattle.index_sql_schema.proofs.StayLemmas.{shown_open, shown_stays, refused_stays}
 use Rattle.index_sql_schema.specs.Sure.{IsSure}
@@ -120,13 +119,12 @@ module _ {S : Type 0} (g : Ghosts S) where
     survives = it.survives;
   }
 
-  -- an index stays one, with its version
+  -- an index stays one
   pub looks_kept : (a b : Held S) (did : Bool) → IsIndexConnection g a → QueriesOnly g a b did → IsIndexConnection g b
   looks_kept a b did kept it = record {
     outside = it.outside kept.outside;
     index = λ clean o. subst IsIndex (sym (it.now_is clean o)) (kept.index (it.was_clean clean) (it.was_open clean o));
     committed = λ clean o. it.now_is clean o ∙ kept.committed (it.was_clean clean) (it.was_open clean o) ∙ sym (it.committed_is clean o);
-    version = λ clean o. subst (λ (db : Database). version_in db.trees ≡ Some 2) (sym (it.now_is clean o)) (kept.version (it.was_clean clean) (it.was_open clean o));
   }
 
   -- ---- why one fails

@@ -65,9 +65,9 @@ version_in db = version_among (meta_in db)
 abbrev pub version_row : ℕ → Row
 version_row version = Int (pos 1) ∷ Null ∷ Text (codes "python-index") ∷ Int (pos version) ∷ []
 
--- rows of meta, with that of version 2 put among them
-abbrev pub with_version_2 : List Row → List Row
-with_version_2 rows = put_all rows (version_row 2 ∷ [])
+-- rows of meta, with that of this version put among them
+abbrev pub with_version : ℕ → List Row → List Row
+with_version version rows = put_all rows (version_row version ∷ [])
 
 -- a row of meta, with version 2 in it
 abbrev pub as_version_2 : Row → Row

@@ -1,12 +1,12 @@
 -- What holds of a connection to an index, and what a look at it leaves.
-use Rattle.std.specs.Prelude.{◌≡◌, Bool, false, IsTrue, Some}
+use Rattle.std.specs.Prelude.{◌≡◌, Bool, false, IsTrue}
 use Rattle.sqlite_trees.specs.declared.store.Store.{Ghosts}
 use Rattle.sqlite.specs.Held.{Held, state}
 use Rattle.sqlite.specs.State.{HasCleanDisk, Survives}
-use Rattle.index_sql_schema.specs.Index.{IsIndex, version_in}
+use Rattle.index_sql_schema.specs.Index.{IsIndex}
 
--- a connection in no transaction; on a clean disk, if it is open, its database is an index with
--- version 2 in meta, all of it committed
+-- a connection in no transaction; on a clean disk, if it is open, its database is an index, all of
+-- it committed
 pub record IsIndexConnection {S : Type 0} (g : Ghosts S) (held : Held S) : Type 0 where
   pub outside : held.in_transaction ≡ false
   pub index : HasCleanDisk (state g held)
@@ -15,9 +15,6 @@ pub record IsIndexConnection {S : Type 0} (g : Ghosts S) (held : Held S) : Type 
   pub committed : HasCleanDisk (state g held)
       → IsTrue (state g held).is_open
       → (state g held).now ≡ (state g held).committed
-  pub version : HasCleanDisk (state g held)
-      → IsTrue (state g held).is_open
-      → version_in (state g held).now.trees ≡ Some 2
 
 -- One look or several; `did` says that they succeeded. All facts but the first two are about a
 -- clean disk.

@@ -5,7 +5,8 @@ use Rattle.index_rules.specs.declared.rows.NameRow.{NameRow}
 use Rattle.index_rules.specs.declared.rows.FileRow.{FileRow}
 use Rattle.index_rules.specs.Maps.{Bytes}
 use Rattle.index_rules.specs.TableRows.{name_row}
-use Rattle.index_sql_schema.specs.Records.{text_key, user_in, name_in, number_in, text_if_any}
+use Rattle.index_sql_schema.specs.Records.{text_key, user_in, name_in, body_in}
+use Rattle.index_sql_schema.specs.Records.{number_in, text_if_any}
 
 -- the user and the record in a row of users
 abbrev pub account_in : Row → Bytes × UserRecord
@@ -25,6 +26,10 @@ file_row_shown r = record {
   requires_python = bytes (column r 6);
   yanked = text_if_any (column r 8);
 }
+
+-- the file in a row of blobs, with what is stored for it
+abbrev pub stored_in : Row → Bytes × Bytes
+stored_in r = (text_key r, body_in r)
 
 -- the user in a row that shows a user alone
 abbrev pub user_shown : Row → Bytes

@@ -19,6 +19,7 @@ use Rattle.index_sql_schema.specs.declared.statement_texts.TheConstants.{SELECT_
 use Rattle.index_sql_schema.specs.declared.statement_texts.TheConstants.{SELECT_CASE, SELECT_BAN}
 use Rattle.index_sql_schema.specs.declared.statement_texts.TheConstants.{SELECT_OWNERS}
 use Rattle.index_sql_schema.specs.declared.statement_texts.TheConstants.{SELECT_NAMES, SELECT_HELD}
+use Rattle.index_sql_schema.specs.declared.statement_texts.TheConstants.{SELECT_BODIES}
 use Rattle.index_sql_schema.specs.declared.statement_texts.TheConstants.{SELECT_FILES}
 
 -- ---- a row in place of the one with its key, if there is one
@@ -153,6 +154,10 @@ select_owners_text = SELECT_OWNERS.now
 -- finds the held names and the prohibited ones, in byte order
 abbrev pub select_names_text : List ℕ
 select_names_text = SELECT_NAMES.now
+
+-- finds what is stored for each file, in byte order
+abbrev pub select_bodies_text : List ℕ
+select_bodies_text = SELECT_BODIES.now
 
 -- finds the held names, in byte order
 abbrev pub select_held_text : List ℕ

@@ -17,8 +17,8 @@ use sqlite::types::ValueRef;
 use sqlite::{Alter, Connection, Error, ErrorCode, Row};
 use std::marker::Model;
 
-/// A connection to an index, outside a transaction. On a clean disk, if it is open, it is an index with version 2 in
-/// `meta`, all of it committed. Contracts see the connection itself.
+/// A connection to an index, outside a transaction. On a clean disk, if it is open, it is an index, all of it
+/// committed. Contracts see the connection itself.
 ///
 /// Code that changes its state has to leave such a connection again. It has no `Drop`.
 pub struct IndexConnection<S: Alter> {

@@ -32,7 +32,7 @@ pub const PUT_BAN: &str =
     "INSERT INTO bans (file) VALUES (?1) ON CONFLICT (file) DO UPDATE SET file = excluded.file";
 
 /// Puts the version of a new index.
-pub const PUT_VERSION: &str = "INSERT INTO meta (id, kind, version) VALUES (1, 'python-index', 2)";
+pub const PUT_VERSION: &str = "INSERT INTO meta (id, kind, version) VALUES (1, 'python-index', ?1)";
 
 /// Deletes a name, and by the schema its owners, yanks and case.
 pub const DELETE_NAME: &str = "DELETE FROM names WHERE name = ?1";
@@ -100,6 +100,9 @@ pub const SELECT_OWNERS: &str = "SELECT user FROM owners WHERE name = ?1 ORDER B
 
 /// Finds the held names and the prohibited ones, in byte order.
 pub const SELECT_NAMES: &str = "SELECT rowid, * FROM names ORDER BY name";
+
+/// Finds what is stored for each file, in byte order.
+pub const SELECT_BODIES: &str = "SELECT rowid, * FROM blobs ORDER BY file";
 
 /// Finds the held names, in byte order.
 pub const SELECT_HELD: &str = "SELECT rowid, * FROM names WHERE state <> 2 ORDER BY name";
