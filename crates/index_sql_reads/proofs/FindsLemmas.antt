@@ -1,5 +1,5 @@
 -- What one look-up finds, and several one after another.
-use Rattle.std.proofs.Common.{◌≡◌, ℕ, true, false, List, Option, Some, None, option_map, is_some, Result, Ok, Err, IfOk, IfErr, IsOk, IsErrAnd, IsOkUnless, refl, sym, ap, subst, ◌∙◌}
+use Rattle.std.proofs.Common.{◌≡◌, ℕ, true, false, List, Option, Some, None, option_map, is_some, Result, Ok, Err, IfOk, IfErr, IsOk, OnOk, IsErrAnd, IsOkUnless, refl, sym, ap, subst, ◌∙◌}
 use Rattle.std.specs.List.{AllByRecursion}
 use Rattle.sqlite_trees.specs.declared.store.Store.{Ghosts}
 use Rattle.sqlite_value.specs.Order.{Row}
@@ -47,6 +47,11 @@ at_exit (Err fault) why P is reason = λ store. reason (sym is ∙ store)
 pub is_some-map : {A B : Type 0} (f : A → B) (o : Option A) → is_some (option_map f o) ≡ is_some o
 is_some-map f None = refl
 is_some-map f (Some a) = refl
+
+-- what holds anyway holds of an answer
+pub on_ok : {A E P : Type 0} (r : Result A E) → P → OnOk r P
+on_ok (Ok a) it = it
+on_ok (Err e) it = tt
 
 -- what is answered is so of something weaker
 pub ok_weaker : {A E : Type 0} (r : Result A E) (P Q : A → Type 0) → ((a : A) → P a → Q a) → IfOk r P → IfOk r Q

@@ -1,5 +1,5 @@
 -- What a query whose rows are passed on leaves, and what its rows have to do with the tables.
-use Rattle.std.proofs.Common.{◌≡◌, ◌∙◌, ◌⊎◌, ℕ, ◌≤◌, ◌-◌, ◌^◌, Bool, true, false, not, List, [], ◌∷◌, ◌++◌, length, map, Ok, Err, Result, IfErr, None, IsTrue, inl, inr, refl, sym, ap, subst, arith, length-append}
+use Rattle.std.proofs.Common.{◌≡◌, ◌∙◌, ◌⊎◌, ℕ, ◌≤◌, ◌-◌, ◌^◌, Bool, true, false, not, List, [], ◌∷◌, ◌++◌, length, map, Ok, Err, Result, IfErr, OnOk, None, IsTrue, inl, inr, refl, sym, ap, subst, arith, length-append}
 use Rattle.std.specs.List.{AllByRecursion}
 use Rattle.std.proofs.lemmas.List.{map-append, length-map}
 use Rattle.sqlite_trees.specs.declared.store.Store.{Ghosts}
@@ -193,6 +193,12 @@ module _ {S : Type 0} (g : Ghosts S) (sql : List ℕ) (params : Row) (plain : Is
       by : WalkFailsAfterRows g IsRow sql params mid now rows → HasReason (state g old) (state g now) ⊎ GivesUnread g IsRow sql params old
       by (inl (e, failed, fault)) = inl (reason_then g old mid now looks before (reasoned g mid now sql params e (looks_kept g old mid true kept looks) before sure failed fault))
       by (inr unread) = inr (rows, mid, it.stayed.same before, gave, unread)
+
+-- rows that were all handed on come from a connection that is open
+pub stays_open : {S : Type 0} (g : Ghosts S) (sql : List ℕ) (params : Row) (old now : Held S) (rows : List Row) (result : Result (Unit {0}) WalkEnd) → QueriesOnly g old now (not (has_fault result)) → (HasCleanDisk (state g now) → IsOf g sql params old rows result)
+    → OnOk result (HasCleanDisk (state g now) → IsTrue (state g now).is_open)
+stays_open g sql params old now rows (Ok done) looks shown = λ clean. looks.lasts refl clean (shown clean).2.0.was_open
+stays_open g sql params old now rows (Err end) looks shown = tt
 
 -- ---- a walk over all rows of the tables
 

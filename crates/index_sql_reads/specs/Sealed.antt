@@ -1,5 +1,5 @@
 -- A body with the digest that its file is bound to.
-use Rattle.std.specs.Prelude.{◌≡◌, Option, Some, None, option_map, ⊤}
+use Rattle.std.specs.Prelude.{◌≡◌, Option, Some, None, option_map, is_some, IsTrue, ⊤}
 use Rattle.std.specs.FinMap.{get}
 use Rattle.index_digest.specs.Digest.{sha256}
 use Rattle.index_rules.specs.declared.records.FileRecord.{FileRecord}
@@ -14,3 +14,8 @@ digest_in T file = option_map (λ (known : FileRecord). known.digest) (get T.fil
 abbrev pub IsBoundTo : Option Bytes → Option Bytes → Type 0
 IsBoundTo digest None = ⊤
 IsBoundTo digest (Some body) = digest ≡ Some (sha256 body)
+
+-- a digest is declared for what is stored, if anything is
+abbrev pub IsDeclared : Option Bytes → Option Bytes → Type 0
+IsDeclared digest None = ⊤
+IsDeclared digest (Some stored) = IsTrue (is_some digest)

@@ -8,7 +8,7 @@ mod lookups;
 mod views;
 mod walk;
 
-pub use body::find_body;
+pub use body::{find_body, find_stored};
 pub use lookups::{files_of, is_held, names};
 pub use views::view;
-pub use walk::{walk_files, walk_held};
+pub use walk::{walk_files, walk_held, walk_stored};

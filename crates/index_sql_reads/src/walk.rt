@@ -1,7 +1,10 @@
 //! Walks over the tables, which pass the rows of one query to a taker as they are read.
-ghost use Rattle.std.specs.Prelude.{◌≡◌, ◌≢◌, ◌∷◌, [], not, IfErr};
+ghost use Rattle.std.specs.Prelude.{◌≡◌, ◌≢◌, ◌∷◌, [], not, IfErr, IsTrue, OnOk};
+ghost use Rattle.std.specs.FinMap.{entries};
 ghost use Rattle.sqlite.specs.Given.{IsPlain};
+ghost use Rattle.sqlite.specs.Held.{state};
 ghost use Rattle.sqlite.specs.Listing.{understood};
+ghost use Rattle.sqlite.specs.State.{HasCleanDisk};
 ghost use Rattle.sqlite.specs.Values.{bound};
 ghost use Rattle.index_sql_schema.specs.Schema.{index_schema};
 ghost use Rattle.index_sql_schema.specs.Faults.{fault_by};
@@ -14,9 +17,9 @@ ghost use Rattle.index_sql_reads.specs.Handed.{HandsQuery, HasHanded, QueryEndsF
 ghost use Rattle.index_sql_reads.specs.WalkReasons.{HandsRows};
 
 use crate::from_row::FromRow;
-use index_names::NormalName;
-use index_rules::{FileRow, NameRow, Taker, WalkEnd};
-use index_sql_schema::statement_texts::{SELECT_FILES, SELECT_HELD};
+use index_names::{FileName, NormalName};
+use index_rules::{Bytes, FileRow, NameRow, Taker, WalkEnd};
+use index_sql_schema::statement_texts::{SELECT_BODIES, SELECT_FILES, SELECT_HELD};
 use index_sql_schema::{IndexConnection, fault_of};
 use sqlite::types::ValueRef;
 use sqlite::{Alter, Error, Row, Rows, params};
@@ -59,6 +62,29 @@ pub fn walk_files<S: Alter, K: Taker<FileRow>>(
         (to_taker K.takes K.stops taker.old taker.new) result }
 {
     walk::<S, FileRow, K>(alloc, conn, SELECT_FILES, params![name.text()], taker)
+}
+
+/// Passes each file for which something is stored to a taker, with what is stored, one at a time, in byte order, until
+/// it wants no more. No digest is tested. The tables stay as they are. Whatever the store does, the taker is given some
+/// rows in this way, and nothing else is done to it.
+///
+/// # Errors
+///
+/// - `Stopped` exactly if the taker returned `false`.
+/// - `OutOfMemory`: memory ran out.
+/// - `Store`: the store fails, a row is invalid, or there are 18,446,744,073,709,551,615 rows or more.
+pub fn walk_stored<S: Alter, K: Taker<(FileName, Bytes)>>(
+    alloc: Global,
+    conn: &mut IndexConnection<S>,
+    taker: &mut K,
+) -> Result<(), WalkEnd>
+    ensures rows { HandsRows (λ T. entries T.bodies) (on_store S.Store conn.old conn.new)
+        (to_taker K.takes K.stops taker.old taker.new) result }
+    // Rows come from a connection that is open.
+    ensures opened { OnOk result (HasCleanDisk (state S.Store conn.new)
+        → IsTrue (state S.Store conn.new).is_open) }
+{
+    walk::<S, (FileName, Bytes), K>(alloc, conn, SELECT_BODIES, &[], taker)
 }
 
 /// Passes the rows that a query shows to a taker one at a time, until it wants no more. The tables stay as they are.
