@@ -1,5 +1,6 @@
 -- The tables of a new index, made as SQL answers.
-use Rattle.std.proofs.Common.{◌≡◌, ◌∙◌, ℕ, true, List, [], ◌∷◌, ◌++◌, None, Ok, Err, Result, IsTrue, refl}
+use Rattle.std.proofs.Common.{◌≡◌, ◌∙◌, ℕ, true, List, [], ◌∷◌, ◌++◌, None, Ok, Err, Result, IsTrue, length, refl, subst}
+use Rattle.sqlite_value.specs.Order.{Row}
 use Rattle.sqlite_trees.specs.declared.store.Store.{Ghosts}
 use Rattle.sqlite_schema.specs.declared.schema.Schema.{Schema}
 use Rattle.sqlite.specs.declared.error.Error.{Error}
@@ -11,7 +12,7 @@ use Rattle.index_rules.specs.Maps.{Bytes}
 use Rattle.index_sql_schema.specs.Index.{same_meta}
 use Rattle.index_sql_schema.specs.OnStore.{on_store}
 use Rattle.index_sql_schema.specs.CreateSteps.{IsStage, no_tables}
-use Rattle.index_sql_writes.specs.Asks.{Ask, CanAsk}
+use Rattle.index_sql_writes.specs.Asks.{Ask, CanAsk, Statement}
 use Rattle.index_sql_writes.specs.Transaction.{MakesInTransaction}
 use Rattle.index_sql_writes.specs.Statements.{put_user_ask}
 use Rattle.index_sql_writes.specs.Steps.{RunsStatement, StepMakesChange}
@@ -31,28 +32,38 @@ begins_blank g old blank opened unlimited =
     let it = blank opened in
     (record { is_open = opened; inside = refl; schema = it.schema; sound = it.sound; empty = tt }, unlimited)
 
--- a statement without parameters, on tables of such a schema, is a step of its text
+-- a statement on tables of such a schema is a step of what it asks; `cells` are its parameters
+pub taken : {S : Type 0} (g : Ghosts S) (Begins : State → Type 0) (Does : State → State → Type 0) (schema : Schema) (sql : List ℕ) (cells params : Row) (old new : Transaction S) (r : Result (Unit {0}) Error) → IsWrite schema sql (length cells)
+    → (Begins (state g old.conn.now) → IsTrue (state g old.conn.now).is_open × ((state g old.conn.now).in_transaction ≡ true) × ((state g old.conn.now).now.schema ≡ schema))
+    → ((count : ℕ) → Begins (state g old.conn.now) → ExecutesInside 0 sql cells (state g old.conn.now) (state g new.conn.now) (Ok count) → Does (state g old.conn.now) (state g new.conn.now))
+    → params ≡ cells → RunsStatement sql params (on_store g old new) r → StepsFrom Begins Does (Statement sql cells ∷ []) (on_store g old new) r
+taken g Begins Does schema sql cells params old new r sure fit does given runs = by r (subst (λ ps. RunsStatement sql ps (on_store g old new) r) given runs)
+  where
+    by : (r : Result (Unit {0}) Error) → RunsStatement sql cells (on_store g old new) r → StepsFrom Begins Does (Statement sql cells ∷ []) (on_store g old new) r
+    by (Ok done) run = record {
+      uncommitted = run.uncommitted;
+      made = λ clean begins.
+          let ran = run.ran clean (fit begins).1 in
+          does ran.0 begins ran.1;
+      asked = λ clean can.
+          let it = fit can.0 in
+          let ran = run.ran clean it.1 in
+          goes_alone (Statement sql cells) (state g old.conn.now) (state g new.conn.now) (Ok ran.0) (goes schema sql cells sure (state g old.conn.now) (state g new.conn.now) it.2 it.0 can.1 (Ok ran.0) ran.1);
+    }
+    by (Err e) run = record {
+      uncommitted = run.uncommitted;
+      made = λ clean. tt;
+      asked = λ clean can.
+          let it = fit can.0 in
+          goes_alone {A = ℕ} (Statement sql cells) (state g old.conn.now) (state g new.conn.now) (Err e) (goes schema sql cells sure (state g old.conn.now) (state g new.conn.now) it.2 it.0 can.1 (Err e) (run.ran clean it.1));
+    }
+
+-- one without parameters is a step of its text
 pub text_taken : {S : Type 0} (g : Ghosts S) (Begins : State → Type 0) (Does : State → State → Type 0) (schema : Schema) (sql : List ℕ) (old new : Transaction S) (r : Result (Unit {0}) Error) → IsWrite schema sql 0
     → (Begins (state g old.conn.now) → IsTrue (state g old.conn.now).is_open × ((state g old.conn.now).in_transaction ≡ true) × ((state g old.conn.now).now.schema ≡ schema))
     → ((count : ℕ) → Begins (state g old.conn.now) → ExecutesInside 0 sql [] (state g old.conn.now) (state g new.conn.now) (Ok count) → Does (state g old.conn.now) (state g new.conn.now))
     → RunsStatement sql [] (on_store g old new) r → StepsFrom Begins Does (text_ask sql ∷ []) (on_store g old new) r
-text_taken g Begins Does schema sql old new (Ok done) sure fit does run = record {
-  uncommitted = run.uncommitted;
-  made = λ clean begins.
-      let ran = run.ran clean (fit begins).1 in
-      does ran.0 begins ran.1;
-  asked = λ clean can.
-      let it = fit can.0 in
-      let ran = run.ran clean it.1 in
-      goes_alone (text_ask sql) (state g old.conn.now) (state g new.conn.now) (Ok ran.0) (goes schema sql [] sure (state g old.conn.now) (state g new.conn.now) it.2 it.0 can.1 (Ok ran.0) ran.1);
-}
-text_taken g Begins Does schema sql old new (Err e) sure fit does run = record {
-  uncommitted = run.uncommitted;
-  made = λ clean. tt;
-  asked = λ clean can.
-      let it = fit can.0 in
-      goes_alone {A = ℕ} (text_ask sql) (state g old.conn.now) (state g new.conn.now) (Err e) (goes schema sql [] sure (state g old.conn.now) (state g new.conn.now) it.2 it.0 can.1 (Err e) (run.ran clean it.1));
-}
+text_taken g Begins Does schema sql old new r sure fit does run = taken g Begins Does schema sql [] [] old new r sure fit does refl run
 
 -- more tables are made after these
 pub more_tables : {S A B : Type 0} (g : Ghosts S) {n m k : ℕ} (xs ys : List Ask) {first mid last : Transaction S} {a : A} → StepsFrom (IsStage n) (Advances m) xs (on_store g first mid) (Ok a)

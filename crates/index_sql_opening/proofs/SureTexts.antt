@@ -45,7 +45,7 @@ bans_sure : IsWrite (stage 8) bans_text 0
 unfolding understood everything digits IsWrite
 bans_sure = (omega arith, refl, refl, refl, tt)
 
-pub version_sure : IsWrite index_schema put_version_text 0
+pub version_sure : IsWrite index_schema put_version_text 1
 unfolding understood everything IsWrite
 version_sure = (omega arith, refl, refl, refl, tt)
 

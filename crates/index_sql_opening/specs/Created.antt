@@ -25,6 +25,6 @@ one_user user account = puts_user user account no_tables
 abbrev pub Advances : ℕ → State → State → Type 0
 Advances n old new = IsStage n new × (new.committed ≡ old.committed)
 
--- the one row of meta of version 2, whatever rows there were
-abbrev pub one_version_row : List Row → List Row
-one_version_row rows = version_row 2 ∷ []
+-- the one row of meta of this version, whatever rows there were
+abbrev pub one_version_row : ℕ → List Row → List Row
+one_version_row version rows = version_row version ∷ []

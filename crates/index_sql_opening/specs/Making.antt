@@ -79,11 +79,13 @@ pub record MakesIndex {S A : Type 0}
       → (IsTrue old.is_open → IsKind old.now)
       → IfErr result (FailsForRefusal asks old new)
 
--- a new index is made of an empty database: one user with this record, and nothing else
+-- a new index of this version is made of an empty database: one user with this record, and nothing
+-- else
 abbrev pub MakesNewIndex :
-    {S A : Type 0} → Bytes → UserRecord → ConnectionStep S → Result A Error → Type 0
-MakesNewIndex user account =
-    MakesIndex IsBlank (λ _. one_user user account) one_version_row (asks_of_new user account)
+    {S A : Type 0} → ℕ → Bytes → UserRecord → ConnectionStep S → Result A Error → Type 0
+MakesNewIndex version user account =
+    MakesIndex IsBlank (λ _. one_user user account) (one_version_row version)
+    (asks_of_new version user account)
 
 -- an index of version 2 is made of a database of version 1: the same tables, and no bans
 abbrev pub MakesOfFirstVersion : {S A : Type 0} → ConnectionStep S → Result A Error → Type 0

@@ -1,6 +1,7 @@
 -- What the creation of an index asks of SQL.
-use Rattle.std.specs.Prelude.{List, None, Result, Some, [], drop, map, slice_get, suc, take, ℕ}
+use Rattle.std.specs.Prelude.{List, None, Result, Some, [], drop, map, pos, slice_get, suc, take, ℕ}
 use Rattle.std.specs.Prelude.{◌++◌, ◌∷◌, ◌≡◌}
+use Rattle.sqlite_value.specs.declared.value.Value.TheVariants.{Int}
 use Rattle.sqlite.specs.declared.error.Error.{Error}
 use Rattle.sqlite.specs.State.{State}
 use Rattle.index_rules.specs.declared.records.UserRecord.{UserRecord}
@@ -22,13 +23,14 @@ text_ask text = Statement text []
 abbrev pub table_asks : ℕ → ℕ → List Ask
 table_asks from to = map text_ask (drop from (take to all_texts))
 
--- the row of the version
-abbrev pub put_version_ask : Ask
-put_version_ask = text_ask put_version_text
+-- the row of this version
+abbrev pub put_version_ask : ℕ → Ask
+put_version_ask version = Statement put_version_text (Int (pos version) ∷ [])
 
 -- the tables, the first user and the version
-abbrev pub asks_of_new : Bytes → UserRecord → List Ask
-asks_of_new user account = table_asks 0 9 ++ (put_user_ask user account ∷ put_version_ask ∷ [])
+abbrev pub asks_of_new : ℕ → Bytes → UserRecord → List Ask
+asks_of_new version user account =
+    table_asks 0 9 ++ (put_user_ask user account ∷ put_version_ask version ∷ [])
 
 -- a state of this kind, in which no query has a limit on its steps
 abbrev pub Unlimited : (State → Type 0) → State → Type 0

@@ -1,7 +1,7 @@
 //! The rows of a new index.
 ghost use Rattle.std.specs.Prelude.{◌≡◌, [], ◌∷◌, false};
 ghost use Rattle.index_sql_schema.specs.CreateSteps.{IsStage};
-ghost use Rattle.index_sql_schema.specs.Index.{with_version_2};
+ghost use Rattle.index_sql_schema.specs.Index.{with_version};
 ghost use Rattle.index_sql_schema.specs.OnStore.{on_store};
 ghost use Rattle.index_sql_writes.specs.Transaction.{IsInTransaction, MakesInTransaction};
 ghost use Rattle.index_sql_opening.specs.NewAsks.{StepsFrom, asks_of_new, put_version_ask};
@@ -12,14 +12,14 @@ use crate::tables::make_tables;
 use index_rules::{UserId, UserRecord};
 use index_sql_schema::statement_texts::PUT_VERSION;
 use index_sql_writes::{put_user, run_statement};
-use sqlite::{Alter, Connection, Error, Transaction};
+use sqlite::{Alter, Connection, Error, Transaction, params};
 
 /// Puts the row of the version among those of `meta`.
-fn put_version<S: Alter>(tx: &mut Transaction<'_, S>) -> Result<(), Error>
-    ensures { StepsFrom IsInTransaction (MakesInTransaction (λ T. T) with_version_2)
-        (put_version_ask ∷ []) (on_store S.Store tx.old tx.new) result }
+fn put_version<S: Alter>(tx: &mut Transaction<'_, S>, version: u32) -> Result<(), Error>
+    ensures { StepsFrom IsInTransaction (MakesInTransaction (λ T. T) (with_version version))
+        (put_version_ask version ∷ []) (on_store S.Store tx.old tx.new) result }
 {
-    run_statement(tx, PUT_VERSION, &[])
+    run_statement(tx, PUT_VERSION, params![version])
 }
 
 /// Makes the tables, with the row of the version and one user.
@@ -27,17 +27,18 @@ fn make_all<S: Alter>(
     tx: &mut Transaction<'_, S>,
     user: &UserId,
     account: &UserRecord,
+    version: u32,
 ) -> Result<(), Error>
     ensures { StepsFrom (IsStage 0)
-        (MakesInTransaction (λ _. one_user user.now account.now) one_version_row)
-        (asks_of_new user.now account.now) (on_store S.Store tx.old tx.new) result }
+        (MakesInTransaction (λ _. one_user user.now account.now) (one_version_row version))
+        (asks_of_new version user.now account.now) (on_store S.Store tx.old tx.new) result }
 {
     make_tables(tx)?;
     put_user(tx, user, account)?;
-    put_version(tx)
+    put_version(tx, version)
 }
 
-/// Makes a new index of an empty database, with this user and the row of the version, and nothing else. A crash leaves
+/// Makes a new index of an empty database, with this user and the row of this version, and nothing else. A crash leaves
 /// the database as it was, or the whole index.
 ///
 /// # Errors
@@ -47,12 +48,14 @@ pub fn fill_new<S: Alter>(
     conn: &mut Connection<S>,
     user: &UserId,
     account: &UserRecord,
+    version: u32,
 ) -> Result<(), Error>
     requires { conn.old.in_transaction ≡ false }
-    ensures made { MakesNewIndex user.now account.now (on_store S.Store conn.old conn.new) result }
+    ensures made { MakesNewIndex version user.now account.now
+        (on_store S.Store conn.old conn.new) result }
 {
     let mut tx = conn.transaction();
-    make_all(&mut tx, user, account)?;
+    make_all(&mut tx, user, account, version)?;
     tx.commit()?;
     Ok(())
 }

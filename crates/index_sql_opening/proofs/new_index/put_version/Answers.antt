@@ -1,12 +1,13 @@
-use Rattle.std.proofs.Common.{[], refl}
+use Rattle.std.proofs.Common.{[], ◌∷◌, pos, refl, rules}
+use Rattle.sqlite_value.specs.declared.value.Value.TheVariants.{Int}
 use Rattle.index_sql_schema.specs.Schema.{index_schema}
 use Rattle.index_sql_schema.specs.StatementTexts.{put_version_text}
 use Rattle.index_sql_schema.proofs.PutVersion.{puts}
 use Rattle.index_sql_writes.proofs.StepLemmas.{makes}
-use Rattle.index_sql_opening.proofs.NewAskLemmas.{text_taken}
+use Rattle.index_sql_opening.proofs.NewAskLemmas.{taken}
 use Rattle.index_sql_opening.proofs.SureTexts.{version_sure}
 use Rattle.index_sql_opening.proofs.new_index.put_version.Goals as goal
 
 pub returns : goal.returns
 returns g c =
-    text_taken g.S.Store _ _ index_schema put_version_text _ _ _ version_sure (λ b. (b.is_open, b.inside, b.index.schema)) (λ count b ran. makes put_version_text [] _ _ _ _ _ count (puts _ _ _) b ran refl) c.run_statement.ensures
+    taken g.S.Store _ _ index_schema put_version_text (Int (pos c.args.version) ∷ []) _ _ _ _ version_sure (λ b. (b.is_open, b.inside, b.index.schema)) (λ count b ran. makes put_version_text (Int (pos c.args.version) ∷ []) _ _ _ _ _ count (puts c.args.version _ _ _) b ran refl) (search rules) c.run_statement.ensures
