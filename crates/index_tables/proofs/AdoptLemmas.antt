@@ -174,7 +174,7 @@ module _ {S : Type 0} (g : Ghosts S) where
           | inr made ↦ inr (subst (λ (d : Database). IsRaised d db) (looks.same refl at_b) made)
         ]
 
-    pub opened_after : (books : BooksState S) → AreOpened g IsRaised b books → AreOpened g IsRaised a books
+    pub opened_after : (books : BooksState S) → AreOpened 2 g IsRaised b books → AreOpened 2 g IsRaised a books
     opened_after books it = record {
       was_working = λ working. let at_b = it.was_working working in record { clean = looks.was_clean at_b.clean; is_open = looks.was_open at_b.clean at_b.is_open };
       was_clean = λ clean. looks.was_clean (it.was_clean clean);

@@ -1,5 +1,5 @@
 -- What a look at the connection leaves of the books.
-use Rattle.std.proofs.Common.{◌≡◌, ◌⊎◌, ◌∙◌, inl, inr, Bool, IsTrue, List, Result, Some, ap, is_ok, not, subst, sym}
+use Rattle.std.proofs.Common.{◌≡◌, ◌⊎◌, ◌∙◌, inl, inr, ℕ, Bool, IsTrue, List, Result, Some, ap, is_ok, not, subst, sym}
 use Rattle.sqlite_trees.specs.declared.store.Store.{Ghosts}
 use Rattle.sqlite.specs.Effect.{Database}
 use Rattle.sqlite.specs.Held.{Held, state}
@@ -17,11 +17,11 @@ use Rattle.index_sql_reads.specs.WalkReasons.{HandsRows}
 use Rattle.index_sql_schema.specs.Index.{IsIndex, meta_in, version_in}
 use Rattle.index_sql_schema.specs.RecordRows.{AreRecords}
 use Rattle.index_sql_schema.specs.Records.{tables_in}
-use Rattle.index_tables.specs.BooksState.{IsHonest, BooksState, Leaves}
+use Rattle.index_tables.specs.BooksState.{HasVersion, IsHonest, BooksState, Leaves}
 use Rattle.index_tables.specs.LooksUp.{BooksStep, LooksFor, SqlLooks, WalksBooks}
 
-pub keeps : {S : Type 0} (g : Ghosts S) (old new : Held S) (did : Bool) → IsTrue did → QueriesOnly g old new did → IsHonest (state g old) → HasCleanDisk (state g new) → IsHonest (state g new)
-keeps g old new did right looks honest clean =
+pub keeps : {S : Type 0} (number : ℕ) (g : Ghosts S) (old new : Held S) (did : Bool) → IsTrue did → QueriesOnly g old new did → IsHonest number (state g old) → HasCleanDisk (state g new) → IsHonest number (state g new)
+keeps number g old new did right looks honest clean =
     let o = looks.lasts right clean honest.is_open in
     let same = looks.now_is clean o in
     record {
@@ -29,41 +29,45 @@ keeps g old new did right looks honest clean =
       is_open = o;
       index = subst IsIndex (sym same) honest.index;
       committed = same ∙ honest.committed ∙ sym (looks.committed_is clean o);
-      version = subst (λ (d : Database). version_in d.trees ≡ Some 2) (sym same) honest.version;
+      version = subst (λ (d : Database). version_in d.trees ≡ Some number) (sym same) honest.version;
     }
 
-looks_back : {S : Type 0} (g : Ghosts S) (old new : Held S) (did : Bool) → QueriesOnly g old new did → IsHonest (state g new) → IsHonest (state g old)
-looks_back g old new did looks honest =
+-- a look keeps the version
+pub version_kept : {S : Type 0} (number : ℕ) (g : Ghosts S) (old new : Held S) (did : Bool) → HasVersion number g old → QueriesOnly g old new did → HasVersion number g new
+version_kept number g old new did kept looks clean o = subst (λ (d : Database). version_in d.trees ≡ Some number) (sym (looks.now_is clean o)) (kept (looks.was_clean clean) (looks.was_open clean o))
+
+looks_back : {S : Type 0} (number : ℕ) (g : Ghosts S) (old new : Held S) (did : Bool) → QueriesOnly g old new did → IsHonest number (state g new) → IsHonest number (state g old)
+looks_back number g old new did looks honest =
     let same = looks.now_is honest.clean honest.is_open in
     record {
       clean = looks.was_clean honest.clean;
       is_open = looks.was_open honest.clean honest.is_open;
       index = subst IsIndex same honest.index;
       committed = sym same ∙ honest.committed ∙ looks.committed_is honest.clean honest.is_open;
-      version = subst (λ (d : Database). version_in d.trees ≡ Some 2) same honest.version;
+      version = subst (λ (d : Database). version_in d.trees ≡ Some number) same honest.version;
     }
 
-looks_leave : {S : Type 0} (g : Ghosts S) (old new : Held S) (did : Bool) → QueriesOnly g old new did → (T : Tables) → Leaves (state g new) T → Leaves (state g old) T
-looks_leave g old new did looks T (clean, (db, may, is)) = (looks.was_clean clean, (db, before (looks.survives.crash clean db may), is))
+looks_leave : {S : Type 0} (number : ℕ) (g : Ghosts S) (old new : Held S) (did : Bool) → QueriesOnly g old new did → (T : Tables) → Leaves number (state g new) T → Leaves number (state g old) T
+looks_leave number g old new did looks T (clean, (db, may, is)) = (looks.was_clean clean, (db, before (looks.survives.crash clean db may), is))
   where
     before : (state g old).may_leave db ⊎ ⊥ → (state g old).may_leave db
     before (inl may) = may
     before (inr none) = absurd none
 
 -- so a look at the connection, counted, is a look at the books
-pub looks_up : {S : Type 0} (g : Ghosts S) (old new : BooksState S) (did is_store_fault : Bool) → QueriesOnly g old.conn new.conn did → new.failures ≡ next_count old.failures did
-    → CountsStoreFault old.stores new.stores is_store_fault → SqlLooks g old new did is_store_fault
-looks_up g old new did is_store_fault looks counted stores = record {
+pub looks_up : {S : Type 0} (number : ℕ) (g : Ghosts S) (old new : BooksState S) (did is_store_fault : Bool) → QueriesOnly g old.conn new.conn did → new.failures ≡ next_count old.failures did
+    → CountsStoreFault old.stores new.stores is_store_fault → SqlLooks number g old new did is_store_fault
+looks_up number g old new did is_store_fault looks counted stores = record {
   looks = record {
     call = record {
-      honest = looks_back g old.conn new.conn _ looks;
+      honest = looks_back number g old.conn new.conn _ looks;
       clean = looks.was_clean;
       failures = counted;
       stores = stores;
     };
     unchanged = λ honest. ap (λ (d : Database). tables_in d.trees) (looks.now_is honest.clean honest.is_open);
-    lasts = λ right. keeps g old.conn new.conn _ right looks;
-    crash = looks_leave g old.conn new.conn _ looks;
+    lasts = λ right. keeps number g old.conn new.conn _ right looks;
+    crash = looks_leave number g old.conn new.conn _ looks;
   };
   records = λ honest records. subst AreRecords (sym (looks.now_is honest.clean honest.is_open)) records;
   limit = λ _. looks.survives.limit;
@@ -73,11 +77,11 @@ looks_up g old new did is_store_fault looks counted stores = record {
   };
 }
 
-pub finds : {S A : Type 0} (g : Ghosts S) (old new : BooksState S) (result : Result A Fault) (Has : Tables → A → Type 0) → FindsInTables g old.conn new.conn result Has
-    → new.failures ≡ next_count old.failures (is_ok result) → CountsStoreFault old.stores new.stores (fails_by_store result) → LooksFor g old new result Has
-finds g old new result Has it counted stores = record {
+pub finds : {S A : Type 0} (number : ℕ) (g : Ghosts S) (old new : BooksState S) (result : Result A Fault) (Has : Tables → A → Type 0) → FindsInTables g old.conn new.conn result Has
+    → new.failures ≡ next_count old.failures (is_ok result) → CountsStoreFault old.stores new.stores (fails_by_store result) → LooksFor number g old new result Has
+finds number g old new result Has it counted stores = record {
   found = λ honest. it.found honest.clean;
-  looks = looks_up g old new (is_ok result) (fails_by_store result) it.looks counted stores;
+  looks = looks_up number g old new (is_ok result) (fails_by_store result) it.looks counted stores;
   reason = it.reason;
 }
 
@@ -87,6 +91,6 @@ pub walks : {S K R A : Type 0} (rows_in : Tables → List R) (books : BooksStep 
 walks rows_in books taker result it counted stores = record {
   walked = λ honest. it.walked;
   given = it.given;
-  looks = looks_up books.store books.old books.new (not (has_fault result)) (ends_by_store result) it.looks counted stores;
+  looks = looks_up books.number books.store books.old books.new (not (has_fault result)) (ends_by_store result) it.looks counted stores;
   reason = it.reason;
 }

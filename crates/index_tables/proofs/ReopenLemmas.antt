@@ -49,11 +49,11 @@ not_first : index_schema ≡ first_version_schema → ⊥
 not_first same = let counts : 9 ≡ 8 = ap (λ (s : Schema). length s.tables) same in absurd (omega (arith, counts))
 
 -- an index is found as one of today
-tables_found : (db : Database) (T : Tables) → IsDatabase db → IsFound db T → AreCurrent db.trees → T ≡ tables_in db.trees
+tables_found : (db : Database) (T : Tables) → IsDatabase db → IsFound db T → AreCurrent 2 db.trees → T ≡ tables_in db.trees
 tables_found db T sound (inl it) cur = it.tables
 tables_found db T sound (inr it) cur = absurd (not_first (sym (schema_found db sound cur.index) ∙ it.first.schema))
 
-ours : (db : Database) → IsDatabase db → AreCurrent db.trees → IsOurs db
+ours : (db : Database) → IsDatabase db → AreCurrent 2 db.trees → IsOurs db
 ours db sound cur = inl (index_found db sound cur.index, cur.version)
 
 -- ---- not all tables are one of two
@@ -127,7 +127,7 @@ module _ {D S : Type 0} {d : disk.Ghosts D} (g : Ghosts S) (old : Held (FileStor
   abbrev Again : Result (BooksState S) (Unopened S) → Type 0
   Again result = IfErr result (λ refused. HasCleanDisk (state g refused.conn) → IsTrue (state g conn).is_open → IsOurs (state g conn).now → IsFault refused.why)
 
-  opens_same : AreCurrent found → (result : Result (BooksState S) (Unopened S)) → Finds result → Again result → OpensIf g (λ T. T ≡ tables_in found) result
+  opens_same : AreCurrent 2 found → (result : Result (BooksState S) (Unopened S)) → Finds result → Again result → OpensIf g (λ T. T ≡ tables_in found) result
   opens_same cur (Ok books) finds again = λ honest. tables_found (state g conn).now (tables_of g books.conn) sound (finds honest) cur
   opens_same cur (Err refused) finds again = λ clean. again clean is_open (ours (state g conn).now sound cur)
 
@@ -138,7 +138,7 @@ module _ {D S : Type 0} {d : disk.Ghosts D} (g : Ghosts S) (old : Held (FileStor
         subst (λ (db : Trees). ∥ (file_state old).may_leave db ∥₁) committed_found (next_run old.store numbered databases image may (state g conn) over.found)
 
     -- at rest an honest index leaves itself
-    pub opens_rest : IsHonest (file_state old) → IsSettled (file_state old) → IsLeft old image → (result : Result (BooksState S) (Unopened S)) → Finds result → Again result → OpensIf g (λ T. T ≡ tables_of over_files old) result
+    pub opens_rest : IsHonest 2 (file_state old) → IsSettled (file_state old) → IsLeft old image → (result : Result (BooksState S) (Unopened S)) → Finds result → Again result → OpensIf g (λ T. T ≡ tables_of over_files old) result
     opens_rest honest rests left result finds again =
         let committed : found ≡ (file_state old).committed.trees = elim left [
           | inl may ↦ ∥∥₁_elim (found_left may) (Trees-set _ _) (rests found honest.is_open)
@@ -146,10 +146,10 @@ module _ {D S : Type 0} {d : disk.Ghosts D} (g : Ghosts S) (old : Held (FileStor
         ] in
         let at : found ≡ (file_state old).now.trees = committed ∙ sym (ap (λ (db : Database). db.trees) honest.committed) in
         subst (λ (db : Trees). OpensIf g (λ T. T ≡ tables_in db) result) at
-        (opens_same (subst AreCurrent (sym at) (current (file_state old) honest)) result finds again)
+        (opens_same (subst (AreCurrent 2) (sym at) (current 2 (file_state old) honest)) result finds again)
 
     -- during a change it leaves one of two
-    pub opens_either : (A B : Tables) → HasCleanDisk (file_state old) → ((T : Tables) → Leaves (file_state old) T → IsEither A B T) → MayLeave old image
+    pub opens_either : (A B : Tables) → HasCleanDisk (file_state old) → ((T : Tables) → Leaves 2 (file_state old) T → IsEither A B T) → MayLeave old image
         → (result : Result (BooksState S) (Unopened S)) → Finds result → Again result → OpensIf g (λ T. ∥ IsEither A B T ∥₁) result
     opens_either A B clean left may (Ok books) finds again =
         λ honest. ∥∥₁_map (found_left may) (λ can. left (tables_of g books.conn) (clean, (found, can, tables_found (state g conn).now (tables_of g books.conn) sound (finds honest))))
@@ -161,7 +161,7 @@ module _ {D S : Type 0} {d : disk.Ghosts D} (g : Ghosts S) (old : Held (FileStor
 
 -- the same, of a connection that is over the files as far as its disk is clean
 module _ {S : Type 0} (g : Ghosts S) (conn : Held S) (image : Image) (over : HasCleanDisk (state g conn) → IsOver image (state g conn)) (Are : Tables → Type 0) where
-  pub opens_if_clean : (Made : Database → Trees → Type 0) (Reason : Held S → Held S → OpenFault → Type 0) (result : Result (BooksState S) (Unopened S)) → IfOk result (AreOpened g Made conn) → IfErr result (IsUnopened g Made Reason conn)
+  pub opens_if_clean : (Made : Database → Trees → Type 0) (Reason : Held S → Held S → OpenFault → Type 0) (result : Result (BooksState S) (Unopened S)) → IfOk result (AreOpened 2 g Made conn) → IfErr result (IsUnopened g Made Reason conn)
       → (IsOver image (state g conn) → OpensIf g Are result) → OpensOnly g Are result
   opens_if_clean Made Reason (Ok books) opened refused opens =
       λ clean. let before = opened.was_clean clean in let it = over before in let honest = opened.lasts (record { clean = before; is_open = it.opened.0.is_open }) clean in (honest, opens it (record { clean = clean; is_open = honest.is_open }))

@@ -32,15 +32,15 @@ use Rattle.index_tables.specs.declared.opening.Unopened.{Unopened}
 use Rattle.index_tables.specs.BooksState.{AreCurrent, BooksState}
 use Rattle.index_tables.specs.Opened.{AreOpened, HaveMeta, HaveTables, IsUnopened, RefusesFound}
 
--- an index with version 2 in meta and these tables
-pub record IsCurrent (db : Database) (T : Tables) : Type 0 where
+-- an index with this version in meta and these tables
+pub record IsCurrent (number : ℕ) (db : Database) (T : Tables) : Type 0 where
   pub index : IsIndex db
-  pub version : version_in db.trees ≡ Some 2
+  pub version : version_in db.trees ≡ Some number
   pub tables : T ≡ tables_in db.trees
 
--- the connection is to an index of version 2 with these tables, all of it committed
-pub record IsCommitted (s : State) (T : Tables) : Type 0 where
-  pub current : IsCurrent s.now T
+-- the connection is to an index of this version with these tables, all of it committed
+pub record IsCommitted (number : ℕ) (s : State) (T : Tables) : Type 0 where
+  pub current : IsCurrent number s.now T
   pub committed : s.now ≡ s.committed
 
 -- a database of version 1, with that version in meta; these are its tables, with no file banned
@@ -59,7 +59,7 @@ IsOurs db = (IsIndex db × (version_in db.trees ≡ Some 2)) ⊎ HasVersionOne d
 
 -- an index with these tables is found in the database
 abbrev pub IsFound : Database → Tables → Type 0
-IsFound db T = IsCurrent db T ⊎ IsFirst db T
+IsFound db T = IsCurrent 2 db T ⊎ IsFirst db T
 
 -- the tables stand for each history that the tables found in the database stand for
 abbrev pub StandAsFound : Database → Tables → Type 0
@@ -69,7 +69,7 @@ StandAsFound db T = (was : Tables) (h : History) → IsFound db was → StandsFo
 -- version
 abbrev pub IsRaised : Database → Trees → Type 0
 IsRaised was db =
-    HasVersionOne was × AreCurrent db × (tables_in db ≡ without_bans (tables_in was.trees))
+    HasVersionOne was × AreCurrent 2 db × (tables_in db ≡ without_bans (tables_in was.trees))
     × (meta_in db ≡ raised (meta_in was.trees))
 
 -- the rows of meta of an index as they were, or those of a database of version 1 with the version
@@ -187,6 +187,6 @@ pub record Adopts {S : Type 0} (g : Ghosts S) (Reason : Held S → Held S → Op
     (old : Held S) (result : Result (BooksState S) (Unopened S)) : Type 0 where
   pub found : IfOk result (HaveTables g (IsFound (state g old).now))
   pub meta : IfOk result (HaveMeta g (AreHandedOn (state g old).now))
-  pub opened : IfOk result (AreOpened g IsRaised old)
+  pub opened : IfOk result (AreOpened 2 g IsRaised old)
   pub why : IfErr result (λ refused. RefusesFound refused.why)
   pub refused : IfErr result (IsUnopened g IsRaised Reason old)

@@ -2,7 +2,8 @@
 use Rattle.std.specs.Prelude.{◌≡◌, ℕ, IsTrue, Some, refl}
 use Rattle.std.specs.Coded.{Coded, code_by, coded×, coded_ℕ}
 use Rattle.sqlite_trees.specs.Tree.{Trees}
-use Rattle.sqlite.specs.Held.{Held, held_code}
+use Rattle.sqlite_trees.specs.declared.store.Store.{Ghosts}
+use Rattle.sqlite.specs.Held.{Held, held_code, state}
 use Rattle.sqlite.specs.State.{State, HasCleanDisk}
 use Rattle.index_sql_writes.specs.Changed.{HoldsIndex}
 use Rattle.index_rules.specs.Tables.{Tables}
@@ -27,22 +28,29 @@ pub record IsWorking (s : State) : Type 0 where
   pub clean : HasCleanDisk s
   pub is_open : IsTrue s.is_open
 
--- the disk is clean and the connection open, to an index with version 2 in meta, all of it
+-- on a clean disk, if the connection is open, its database has this version in meta
+abbrev pub HasVersion : {S : Type 0} → ℕ → Ghosts S → Held S → Type 0
+HasVersion number g held =
+    HasCleanDisk (state g held) → IsTrue (state g held).is_open
+    → version_in (state g held).now.trees ≡ Some number
+
+-- the disk is clean and the connection open, to an index with this version in meta, all of it
 -- committed
-pub record IsHonest (s : State) : Type 0 where
+pub record IsHonest (number : ℕ) (s : State) : Type 0 where
   pub clean : HasCleanDisk s
   pub is_open : IsTrue s.is_open
   pub index : IsIndex s.now
   pub committed : s.now ≡ s.committed
-  pub version : version_in s.now.trees ≡ Some 2
+  pub version : version_in s.now.trees ≡ Some number
 
--- the trees of an index with version 2 in meta
-pub record AreCurrent (db : Trees) : Type 0 where
+-- the trees of an index with this version in meta
+pub record AreCurrent (number : ℕ) (db : Trees) : Type 0 where
   pub index : HoldsIndex db
-  pub version : version_in db ≡ Some 2
+  pub version : version_in db ≡ Some number
 
 -- The disk has returned what was written, and an open after a crash may find these tables. If it
--- may find no index of version 2, any tables do: a clause on which tables are left also says that
--- an index is.
-abbrev pub Leaves : State → Tables → Type 0
-Leaves s T = HasCleanDisk s × ((db : Trees) × s.may_leave db × (AreCurrent db → T ≡ tables_in db))
+-- may find no index of this version, any tables do: a clause on which tables are left also says
+-- that an index is.
+abbrev pub Leaves : ℕ → State → Tables → Type 0
+Leaves number s T =
+    HasCleanDisk s × ((db : Trees) × s.may_leave db × (AreCurrent number db → T ≡ tables_in db))

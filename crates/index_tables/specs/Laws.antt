@@ -1,5 +1,5 @@
 -- What a crash leaves of an honest index.
-use Rattle.std.specs.Prelude.{◌≡◌, IsTrue}
+use Rattle.std.specs.Prelude.{◌≡◌, ℕ, IsTrue}
 use Rattle.std.proofs.Common.{◌∙◌, ap, refl, subst, sym}
 use Rattle.sqlite_trees.specs.Tree.{Trees}
 use Rattle.sqlite.specs.Effect.{Database}
@@ -14,13 +14,14 @@ abbrev pub IsSettled : State → Type 0
 IsSettled s = (db : Trees) → IsTrue s.is_open → s.may_leave db → db ≡ s.committed.trees
 
 -- an honest index is what an open finds of it
-pub current : (s : State) → IsHonest s → AreCurrent s.now.trees
-current s honest = record { index = index_held s.now _ honest.index refl; version = honest.version }
+pub current : (number : ℕ) (s : State) → IsHonest number s → AreCurrent number s.now.trees
+current number s honest =
+    record { index = index_held s.now _ honest.index refl; version = honest.version }
 
 -- a crash leaves the tables of an honest index as they stand
-pub settled_at : {s : State} → IsHonest s → IsSettled s → (T : Tables) → Leaves s T
-    → T ≡ tables_in s.now.trees
-settled_at {s} honest settled T (clean, (db, may, is)) =
+pub settled_at : {number : ℕ} {s : State} → IsHonest number s → IsSettled s → (T : Tables)
+    → Leaves number s T → T ≡ tables_in s.now.trees
+settled_at {number} {s} honest settled T (clean, (db, may, is)) =
     let at : db ≡ s.now.trees =
     settled db honest.is_open may ∙ ap (λ (d : Database). d.trees) (sym honest.committed) in
-    is (subst AreCurrent (sym at) (current s honest)) ∙ ap tables_in at
+    is (subst (AreCurrent number) (sym at) (current number s honest)) ∙ ap tables_in at

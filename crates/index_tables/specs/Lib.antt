@@ -5,3 +5,4 @@ pub mod Opened
 pub mod Adopted
 pub mod Reopened
 pub mod Written
+pub mod Placed

@@ -1,5 +1,5 @@
 -- What the opening of an index returns, and what it leaves of a connection.
-use Rattle.std.specs.Prelude.{◌≡◌, ◌≢◌, ◌⊎◌, List, [], ◌∷◌, Result, Ok, Err, IsTrue, false}
+use Rattle.std.specs.Prelude.{◌≡◌, ◌≢◌, ◌⊎◌, ℕ, List, [], ◌∷◌, Result, Ok, Err, IsTrue, false}
 use Rattle.sqlite_value.specs.Order.{Row}
 use Rattle.sqlite_trees.specs.declared.store.Store.{Ghosts}
 use Rattle.sqlite_trees.specs.Tree.{Trees}
@@ -91,14 +91,15 @@ CrashLeavesOrMakes Made old new =
     IsWorking old → HasCleanDisk new → (db : Trees) → new.may_leave db
     → old.may_leave db ⊎ Made old.now db
 
--- the rows of meta of a new index: the one with version 2
-abbrev pub AreNewMeta : List Row → Type 0
-AreNewMeta rows = rows ≡ version_row 2 ∷ []
+-- the rows of meta of a new index: the one with this version
+abbrev pub AreNewMeta : ℕ → List Row → Type 0
+AreNewMeta number rows = rows ≡ version_row number ∷ []
 
--- an index of version 2 with these tables and one row of meta is made of an empty database
-abbrev pub IsCreated : Tables → Database → Trees → Type 0
-IsCreated T was db =
-    (was.schema ≡ no_schema) × AreCurrent db × (tables_in db ≡ T) × AreNewMeta (meta_in db)
+-- an index of this version with these tables and one row of meta is made of an empty database
+abbrev pub IsCreated : ℕ → Tables → Database → Trees → Type 0
+IsCreated number T was db =
+    (was.schema ≡ no_schema) × AreCurrent number db × (tables_in db ≡ T)
+    × AreNewMeta number (meta_in db)
 
 -- as long as the connection works, the books have such tables
 abbrev pub HaveTables : {S : Type 0} → Ghosts S → (Tables → Type 0) → BooksState S → Type 0
@@ -116,15 +117,15 @@ HaveMeta g Are books = IsWorking (state g books.conn) → Are (meta_in (state g 
 abbrev pub KeepsLimit : State → State → Type 0
 KeepsLimit old new = new.step_limit ≡ old.step_limit
 
--- Books were opened on a connection. `Made` says what the database may have become.
-pub record AreOpened {S : Type 0} (g : Ghosts S) (Made : Database → Trees → Type 0) (old : Held S)
-    (books : BooksState S) : Type 0 where
+-- Books of this version were opened on a connection. `Made` says what the database may have become.
+pub record AreOpened {S : Type 0} (number : ℕ) (g : Ghosts S) (Made : Database → Trees → Type 0)
+    (old : Held S) (books : BooksState S) : Type 0 where
   -- the connection works only if it did before; if it did, the books are honest as far as the disk
   -- is clean
   pub was_working : IsWorking (state g books.conn) → IsWorking (state g old)
   pub was_clean : HasCleanDisk (state g books.conn) → HasCleanDisk (state g old)
   pub lasts : IsWorking (state g old) → HasCleanDisk (state g books.conn)
-      → IsHonest (state g books.conn)
+      → IsHonest number (state g books.conn)
   pub failures : books.failures ≡ 0
   pub stores : books.stores ≡ 0
   pub limit : IsWorking (state g books.conn) → KeepsLimit (state g old) (state g books.conn)
@@ -133,17 +134,17 @@ pub record AreOpened {S : Type 0} (g : Ghosts S) (Made : Database → Trees → 
   -- a crash leaves what it could leave before, or what was made; if the connection worked, only the
   -- tables of the books
   pub crash : CrashLeavesOrMakes Made (state g old) (state g books.conn)
-  pub alone : IsWorking (state g old) → (T : Tables) → Leaves (state g books.conn) T
+  pub alone : IsWorking (state g old) → (T : Tables) → Leaves number (state g books.conn) T
       → T ≡ tables_of g books.conn
 
--- books of a new index with these tables were made on a connection; all their rows are records, and
--- meta has one row
-pub record AreNew {S : Type 0} (g : Ghosts S) (T : Tables) (old : Held S)
+-- books of a new index of this version with these tables were made on a connection; all their rows
+-- are records, and meta has one row
+pub record AreNew {S : Type 0} (number : ℕ) (g : Ghosts S) (T : Tables) (old : Held S)
     (books : BooksState S) : Type 0 where
   pub tables : HaveTables g (λ it. it ≡ T) books
   pub records : HaveRecords g books
-  pub meta : HaveMeta g AreNewMeta books
-  pub opened : AreOpened g (IsCreated T) old books
+  pub meta : HaveMeta g (AreNewMeta number) books
+  pub opened : AreOpened number g (IsCreated number T) old books
 
 -- Books were not opened on a connection, for a reason of this kind; the connection is given back
 -- outside a transaction.
@@ -160,6 +161,7 @@ pub record IsUnopened {S : Type 0} (g : Ghosts S) (Made : Database → Trees →
   -- a crash leaves what it could leave before, or, after a late fault, what was made
   pub crash : CrashLeavesOrMakes Made (state g old) (state g refused.conn)
 
--- a new index with these tables was not made on a connection by these statements
-abbrev pub IsNotMade : {S : Type 0} → Ghosts S → Tables → List Ask → Held S → Unopened S → Type 0
-IsNotMade g T asks = IsUnopened g (IsCreated T) (StoreForOthers g asks)
+-- a new index of this version with these tables was not made on a connection by these statements
+abbrev pub IsNotMade : {S : Type 0} → ℕ → Ghosts S → Tables → List Ask → Held S → Unopened S
+    → Type 0
+IsNotMade number g T asks = IsUnopened g (IsCreated number T) (StoreForOthers g asks)

@@ -35,12 +35,12 @@ IsOpenedOver g image conn = HasCleanDisk (state g conn) → IsOver image (state 
 
 -- a crash leaves one of these two tables
 abbrev pub CrashLeavesEitherTables : Tables → Tables → State → Type 0
-CrashLeavesEitherTables A B s = (T : Tables) → Leaves s T → (T ≡ A) ⊎ (T ≡ B)
+CrashLeavesEitherTables A B s = (T : Tables) → Leaves 2 s T → (T ≡ A) ⊎ (T ≡ B)
 
 -- on a clean disk, an index with such tables is opened, or memory ran out or the store failed
 abbrev pub OpensOnly : {S : Type 0} → Ghosts S → (Tables → Type 0)
     → Result (BooksState S) (Unopened S) → Type 0
 OpensOnly g Are (Ok books) =
     HasCleanDisk (state g books.conn)
-    → IsHonest (state g books.conn) × Are (tables_of g books.conn)
+    → IsHonest 2 (state g books.conn) × Are (tables_of g books.conn)
 OpensOnly g Are (Err refused) = HasCleanDisk (state g refused.conn) → IsFault refused.why

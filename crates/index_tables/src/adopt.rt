@@ -16,6 +16,7 @@ ghost use Rattle.index_tables.specs.Adopted.{foreign_tables_fault, refusal_by};
 
 use crate::books::SqlBooks;
 use crate::opening::{Unopened, open_fault_of};
+use crate::version::Version2;
 use index_rules::OpenFault;
 use index_sql_opening::{
     expose_invariants, has_meta, has_table, has_version_1_tables, is_first_version, is_ours,
@@ -24,6 +25,7 @@ use index_sql_opening::{
 use index_sql_schema::{IndexConnection, fault_of};
 use sqlite::{Alter, Connection};
 use std::alloc::{AllocError, Global};
+use std::marker::PhantomData;
 
 /// A schema that this crate knows.
 #[derive(Clone, Copy)]
@@ -34,7 +36,7 @@ pub(crate) enum Kind {
     FirstVersion,
 }
 
-impl<S: Alter> SqlBooks<S> {
+impl<S: Alter> SqlBooks<S, Version2> {
     /// Opens the index in an existing database. One of version 1 becomes one of version 2, in one transaction; the rows
     /// of `meta` stay, except for the version. A crash leaves the database as it was, or, of version 1, with the whole
     /// change; after the adoption, the index alone.
@@ -48,13 +50,13 @@ impl<S: Alter> SqlBooks<S> {
     /// - `OtherVersion`: the version is neither 1 nor 2.
     /// - `OutOfMemory`: memory ran out.
     /// - `Store`: the tables are not as an index has them, or the store fails.
-    pub fn adopt(alloc: Global, conn: Connection<S>) -> Result<SqlBooks<S>, Unopened<S>>
+    pub fn adopt(alloc: Global, conn: Connection<S>) -> Result<SqlBooks<S, Version2>, Unopened<S>>
         requires outside { conn.in_transaction ≡ false }
         ensures found { IfOk result (HaveTables S.Store (IsFound (state S.Store conn).now)) }
         ensures history { IfOk result (HaveTables S.Store (StandAsFound (state S.Store conn).now)) }
         ensures one_bearer { IfOk result (HaveTables S.Store HasOneBearer) }
         ensures meta { IfOk result (HaveMeta S.Store (AreHandedOn (state S.Store conn).now)) }
-        ensures opened { IfOk result (AreOpened S.Store IsRaised conn) }
+        ensures opened { IfOk result (AreOpened 2 S.Store IsRaised conn) }
         ensures why { IfErr result (λ refused. RefusesFound refused.why) }
         ensures refused { IfErr result (IsUnopened S.Store IsRaised (IsReason S.Store) conn) }
         ensures no_meta { has_meta (state S.Store conn).now.schema ≡ false
@@ -96,7 +98,10 @@ fn kind_of<S: Alter>(alloc: Global, conn: &Connection<S>) -> Result<Option<Kind>
 }
 
 /// The index on a connection to one, or to a database of version 1, which becomes one.
-fn adopt_kind<S: Alter>(conn: Connection<S>, kind: Kind) -> Result<SqlBooks<S>, Unopened<S>>
+fn adopt_kind<S: Alter>(
+    conn: Connection<S>,
+    kind: Kind,
+) -> Result<SqlBooks<S, Version2>, Unopened<S>>
     requires { RestsAs S.Store (λ s. IsTrue s.is_open → IsOfKind s.now kind) conn }
     // One that has the version of its kind is opened, unless the store or SQL fails.
     ensures { Adopts S.Store (IsReasonOfKind S.Store kind) conn result }
@@ -109,6 +114,7 @@ fn adopt_kind<S: Alter>(conn: Connection<S>, kind: Kind) -> Result<SqlBooks<S>, 
             conn: IndexConnection { conn },
             failures: 0,
             stores: 0,
+            version: PhantomData,
         }),
         (Kind::FirstVersion, Ok(Some(1))) => migrate_and_adopt(conn),
         (_, Ok(version)) => Err(Unopened {
@@ -168,7 +174,7 @@ fn refuse_other<S: Alter>(conn: Connection<S>) -> Unopened<S>
 }
 
 /// Makes a database of version 1 an index of version 2, and opens it.
-fn migrate_and_adopt<S: Alter>(conn: Connection<S>) -> Result<SqlBooks<S>, Unopened<S>>
+fn migrate_and_adopt<S: Alter>(conn: Connection<S>) -> Result<SqlBooks<S, Version2>, Unopened<S>>
     requires { RestsAs S.Store (λ s. HasCleanDisk s → IsTrue s.is_open → HasVersionOne s.now) conn }
     ensures adopts { Adopts S.Store (StoreForRefusal S.Store asks_of_migration) conn result }
     ensures fault { IfErr result (λ refused. IsFault refused.why) }
@@ -179,6 +185,7 @@ fn migrate_and_adopt<S: Alter>(conn: Connection<S>) -> Result<SqlBooks<S>, Unope
             conn: IndexConnection { conn },
             failures: 0,
             stores: 0,
+            version: PhantomData,
         }),
         Err(error) => Err(Unopened {
             why: open_fault_of(fault_of(error)),

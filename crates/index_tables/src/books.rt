@@ -19,6 +19,7 @@ ghost use Rattle.index_tables.specs.BooksState.{IsHonest, IsWorking};
 ghost use Rattle.index_tables.specs.LooksUp.{KeepsBooksLimit, KeepsMeta, KeepsRecords, LooksFor, SqlCalls, SqlLooks, WalksBooks, with_books};
 ghost use Rattle.index_tables.specs.Written.{FailsToWrite};
 
+use crate::version::Version;
 use index_digest::Sealed;
 use index_names::{FileName, NormalName};
 use index_rules::{Books, Change, Fault, FileRow, Keys, NameRow, Taker, View, WalkEnd};
@@ -26,48 +27,54 @@ use index_sql_schema::{IndexConnection, fault_of};
 use index_sql_writes::make_change;
 use sqlite::{Alter, Connection, Error};
 use std::alloc::Global;
-use std::marker::Model;
+use std::marker::{Model, PhantomData};
 
-/// The tables in an SQLite database. Contracts see the connection and how many calls failed.
+/// The tables in an SQLite database with this version in `meta`. Contracts see the connection and how many calls failed.
 ///
 /// A call looks at the database, or makes one transaction. After a fault of the store the connection may be shut; then
 /// no later write succeeds. It has no `Drop`: `into_connection` gives the connection back, to be closed.
-pub struct SqlBooks<S: Alter> {
+pub struct SqlBooks<S: Alter, V: Version> {
     pub(crate) conn: IndexConnection<S>,
     pub(crate) failures: u64,
     pub(crate) stores: u64,
+    pub(crate) version: PhantomData<V>,
 }
 
-impl<S: Alter> Model for SqlBooks<S> {
-    ghost use Rattle.index_tables.specs.BooksState.{BooksState, books_state_code};
+impl<S: Alter, V: Version> Model for SqlBooks<S, V> {
+    ghost use Rattle.index_tables.specs.BooksState.{BooksState, HasVersion, books_state_code};
 
     ghost Value = { BooksState S };
 
     ghost coded = { books_state_code S.code };
 
     ghost view = { λ books. record { conn = books.conn; failures = books.failures; stores = books.stores } };
+
+    // The version is in the type: a call of any books keeps it, whatever it says of them.
+    ghost invariant = { λ it. HasVersion V.number S.Store it.conn };
 }
 
-impl<S: Alter> SqlBooks<S> {
+impl<S: Alter, V: Version> SqlBooks<S, V> {
     /// The connection, outside a transaction. As long as it works, it is one to an index, all of which is committed.
     pub fn into_connection(self) -> Connection<S>
         ensures same { result ≡ self.conn }
         ensures ended { result.in_transaction ≡ false }
-        ensures honest { IsWorking (state S.Store result) → IsHonest (state S.Store result) }
-        ensures committed { IsHonest (state S.Store result)
-            → IsCommitted (state S.Store result) (tables_of S.Store self.conn) }
+        ensures honest { IsWorking (state S.Store result)
+            → IsHonest V.number (state S.Store result) }
+        ensures committed { IsHonest V.number (state S.Store result)
+            → IsCommitted V.number (state S.Store result) (tables_of S.Store self.conn) }
     {
         let SqlBooks {
             conn,
             failures: _,
             stores: _,
+            version: _,
         } = self;
         let IndexConnection { conn } = conn;
         conn
     }
 }
 
-impl<S: Alter> Books for SqlBooks<S> {
+impl<S: Alter, V: Version> Books for SqlBooks<S, V> {
     ghost use Rattle.sqlite.specs.Held.{state};
     ghost use Rattle.sqlite.specs.State.{HasCleanDisk};
     ghost use Rattle.index_sql_reads.specs.ConnectionTables.{tables_of};
@@ -76,11 +83,11 @@ impl<S: Alter> Books for SqlBooks<S> {
 
     ghost tables = { λ books. tables_of S.Store books.conn };
 
-    ghost IsHonest = { λ books. IsHonest (state S.Store books.conn) };
+    ghost IsHonest = { λ books. IsHonest V.number (state S.Store books.conn) };
 
     ghost IsClean = { λ books. HasCleanDisk (state S.Store books.conn) };
 
-    ghost may_leave = { λ books. Leaves (state S.Store books.conn) };
+    ghost may_leave = { λ books. Leaves V.number (state S.Store books.conn) };
 
     ghost failures = { λ books. books.failures };
 
@@ -91,7 +98,7 @@ impl<S: Alter> Books for SqlBooks<S> {
     }
 
     fn view(&mut self, alloc: Global, keys: &Keys) -> Result<View, Fault>
-        ensures { LooksFor S.Store self.old self.new result (λ T. Sees T keys.now) }
+        ensures { LooksFor V.number S.Store self.old self.new result (λ T. Sees T keys.now) }
     {
         let seen = index_sql_reads::view(alloc, &mut self.conn, keys);
         self.failures = next_count(self.failures, seen.is_ok());
@@ -101,24 +108,26 @@ impl<S: Alter> Books for SqlBooks<S> {
 
     #[tactic(auto, using(crate::proofs::WriteLemmas::told_reason, crate::proofs::WriteLemmas::limit_kept, crate::proofs::WriteLemmas::meta_kept))]
     fn write(&mut self, _alloc: Global, change: Change) -> Result<(), Fault>
-        ensures written { IsHonest (state S.Store self.new.conn) → OnOk result
+        ensures written { IsHonest V.number (state S.Store self.new.conn) → OnOk result
             (tables_of S.Store self.new.conn ≡ means change (tables_of S.Store self.old.conn)) }
-        ensures unchanged { IsHonest (state S.Store self.new.conn) → OnErr result
+        ensures unchanged { IsHonest V.number (state S.Store self.new.conn) → OnErr result
             (tables_of S.Store self.new.conn ≡ tables_of S.Store self.old.conn) }
         ensures lasts { OnOk result (HasCleanDisk (state S.Store self.new.conn)
-            → IsHonest (state S.Store self.new.conn)) }
-        ensures crash { (T : Tables) → Leaves (state S.Store self.new.conn) T
-            → Leaves (state S.Store self.old.conn) T ⊎ (IsHonest (state S.Store self.old.conn)
+            → IsHonest V.number (state S.Store self.new.conn)) }
+        ensures crash { (T : Tables) → Leaves V.number (state S.Store self.new.conn) T
+            → Leaves V.number (state S.Store self.old.conn) T
+            ⊎ (IsHonest V.number (state S.Store self.old.conn)
             × (T ≡ means change (tables_of S.Store self.old.conn))) }
-        ensures alone { IsHonest (state S.Store self.old.conn) → OnOk result ((T : Tables)
-            → Leaves (state S.Store self.new.conn) T
+        ensures alone { IsHonest V.number (state S.Store self.old.conn) → OnOk result ((T : Tables)
+            → Leaves V.number (state S.Store self.new.conn) T
             → T ≡ means change (tables_of S.Store self.old.conn)) }
-        ensures call { SqlCalls S.Store self.old self.new (is_ok result) (fails_by_store result) }
+        ensures call { SqlCalls V.number S.Store self.old self.new (is_ok result)
+            (fails_by_store result) }
         // What is written can be read again: its rows are records if they were.
-        ensures records { KeepsRecords S.Store self.old self.new }
-        ensures limit { KeepsBooksLimit S.Store self.old self.new }
+        ensures records { KeepsRecords V.number S.Store self.old self.new }
+        ensures limit { KeepsBooksLimit V.number S.Store self.old self.new }
         // A write leaves the rows of `meta`.
-        ensures meta { KeepsMeta S.Store self.old self.new }
+        ensures meta { KeepsMeta V.number S.Store self.old self.new }
         ensures reason { FailsToWrite S.Store change self.old.conn self.new.conn result }
     {
         let made = make_change(&mut self.conn.conn, &change);
@@ -130,7 +139,7 @@ impl<S: Alter> Books for SqlBooks<S> {
     }
 
     fn is_held(&mut self, alloc: Global, name: &NormalName) -> Result<bool, Fault>
-        ensures { LooksFor S.Store self.old self.new result
+        ensures { LooksFor V.number S.Store self.old self.new result
             (λ T it. it ≡ is_held_lem (get T.names name.now)) }
     {
         let held = index_sql_reads::is_held(alloc, &mut self.conn, name);
@@ -140,11 +149,12 @@ impl<S: Alter> Books for SqlBooks<S> {
     }
 
     fn bytes_of(&mut self, alloc: Global, file: &FileName) -> Result<Option<Sealed>, Fault>
-        ensures found { IsHonest (state S.Store self.new.conn)
+        ensures found { IsHonest V.number (state S.Store self.new.conn)
             → IfOk result (λ body. body ≡ get (tables_of S.Store self.old.conn).bodies file.now) }
-        ensures looks { SqlLooks S.Store self.old self.new (is_ok result) (fails_by_store result) }
+        ensures looks { SqlLooks V.number S.Store self.old self.new (is_ok result)
+            (fails_by_store result) }
         // The bytes have the digest that the file is bound to, even if other programs wrote the database.
-        ensures bound { IsHonest (state S.Store self.new.conn)
+        ensures bound { IsHonest V.number (state S.Store self.new.conn)
             → IfOk result (IsBoundTo (digest_in (tables_of S.Store self.old.conn) file.now)) }
         ensures reason { let T = tables_of S.Store self.old.conn in
             IsBoundTo (digest_in T file.now) (get T.bodies file.now)
@@ -157,7 +167,8 @@ impl<S: Alter> Books for SqlBooks<S> {
     }
 
     fn names(&mut self, alloc: Global) -> Result<Vec<NameRow>, Fault>
-        ensures { LooksFor S.Store self.old self.new result (λ T it. it.items ≡ name_rows_in T) }
+        ensures { LooksFor V.number S.Store self.old self.new result
+            (λ T it. it.items ≡ name_rows_in T) }
     {
         let rows = index_sql_reads::names(alloc, &mut self.conn);
         self.failures = next_count(self.failures, rows.is_ok());
@@ -166,7 +177,7 @@ impl<S: Alter> Books for SqlBooks<S> {
     }
 
     fn files_of(&mut self, alloc: Global, name: &NormalName) -> Result<Vec<FileRow>, Fault>
-        ensures { LooksFor S.Store self.old self.new result
+        ensures { LooksFor V.number S.Store self.old self.new result
             (λ T it. it.items ≡ file_rows_in T name.now) }
     {
         let rows = index_sql_reads::files_of(alloc, &mut self.conn, name);
@@ -176,7 +187,7 @@ impl<S: Alter> Books for SqlBooks<S> {
     }
 
     fn walk_held<K: Taker<NameRow>>(&mut self, alloc: Global, taker: &mut K) -> Result<(), WalkEnd>
-        ensures { WalksBooks held_rows_in (with_books S.Store self.old self.new)
+        ensures { WalksBooks held_rows_in (with_books V.number S.Store self.old self.new)
             (to_taker K.takes K.stops taker.old taker.new) result }
     {
         let ended = index_sql_reads::walk_held(alloc, &mut self.conn, taker);
@@ -191,7 +202,8 @@ impl<S: Alter> Books for SqlBooks<S> {
         name: &NormalName,
         taker: &mut K,
     ) -> Result<(), WalkEnd>
-        ensures { WalksBooks (λ T. file_rows_in T name.now) (with_books S.Store self.old self.new)
+        ensures { WalksBooks (λ T. file_rows_in T name.now)
+            (with_books V.number S.Store self.old self.new)
             (to_taker K.takes K.stops taker.old taker.new) result }
     {
         let ended = index_sql_reads::walk_files(alloc, &mut self.conn, name, taker);

@@ -15,14 +15,16 @@ ghost use Rattle.index_tables.specs.Opened.{AreNew, HasOthers, HaveTables, IsAmo
 
 use crate::books::SqlBooks;
 use crate::opening::{Unopened, open_fault_of};
+use crate::version::Version;
 use index_digest::Digest256;
 use index_rules::{OpenFault, UserId, UserRecord, first_user};
 use index_sql_opening::{expose_invariants, fill_new, has_any_table, is_blank};
 use index_sql_schema::{IndexConnection, fault_of};
 use sqlite::{Alter, Connection};
 use std::alloc::Global;
+use std::marker::PhantomData;
 
-impl<S: Alter> SqlBooks<S> {
+impl<S: Alter, V: Version> SqlBooks<S, V> {
     /// Makes a new index with one user, who is of the office and whose token has this SHA-256 digest, and with one row
     /// in `meta`, in one transaction. A crash leaves the database as it was, or the whole index; after the call, the
     /// index alone.
@@ -40,9 +42,10 @@ impl<S: Alter> SqlBooks<S> {
         conn: Connection<S>,
         user: &[u8],
         token: Digest256,
-    ) -> Result<SqlBooks<S>, Unopened<S>>
+    ) -> Result<SqlBooks<S, V>, Unopened<S>>
         requires outside { conn.in_transaction ≡ false }
-        ensures made { IfOk result (AreNew S.Store (first_tables user.now token) conn) }
+        ensures made { IfOk result
+            (AreNew V.number S.Store (first_tables user.now token) conn) }
         ensures sound { IfOk result (HaveTables S.Store IsSound) }
         ensures history { let h = begins user.now token in
             IfOk result (HaveTables S.Store (λ T. StandsFor T h)) }
@@ -55,8 +58,8 @@ impl<S: Alter> SqlBooks<S> {
         ensures among_others { IsAmongOthers user.now token (state S.Store conn).now.schema
             → IsRefusedAs OpenFault.Store result ⊎ IsRefusedAs OpenFault.OutOfMemory result }
         ensures why { IfErr result (λ refused. RefusesNew refused.why) }
-        ensures refused { IfErr result (IsNotMade S.Store (first_tables user.now token)
-            (asks_of_new user.now (first_record token)) conn) }
+        ensures refused { IfErr result (IsNotMade V.number S.Store (first_tables user.now token)
+            (asks_of_new V.number user.now (first_record token)) conn) }
     {
         let conn = expose_invariants(conn);
         match first_user(alloc, user, token) {
@@ -67,13 +70,14 @@ impl<S: Alter> SqlBooks<S> {
 }
 
 /// A new index with this user, if the database is empty.
-fn fill_blank<S: Alter>(
+fn fill_blank<S: Alter, V: Version>(
     conn: Connection<S>,
     user: &UserId,
     account: &UserRecord,
-) -> Result<SqlBooks<S>, Unopened<S>>
+) -> Result<SqlBooks<S, V>, Unopened<S>>
     requires { RestsAs S.Store IsLive conn }
-    ensures made { IfOk result (AreNew S.Store (one_user user.now account.now) conn) }
+    ensures made { IfOk result
+        (AreNew V.number S.Store (one_user user.now account.now) conn) }
     ensures why { IfErr result (λ refused.
         (refused.why ≡ OpenFault.NotEmpty) ⊎ IsFault refused.why) }
     ensures taken { IsRefusedAs OpenFault.NotEmpty result
@@ -82,8 +86,8 @@ fn fill_blank<S: Alter>(
         → IsRefusedAs OpenFault.NotEmpty result }
     ensures among_others { HasOthers (state S.Store conn).now.schema
         → IsRefusedAs OpenFault.Store result }
-    ensures refused { IfErr result (IsNotMade S.Store (one_user user.now account.now)
-        (asks_of_new user.now account.now) conn) }
+    ensures refused { IfErr result (IsNotMade V.number S.Store (one_user user.now account.now)
+        (asks_of_new V.number user.now account.now) conn) }
 {
     if has_any_table(conn.schema()) {
         return Err(Unopened {
@@ -98,11 +102,12 @@ fn fill_blank<S: Alter>(
         });
     }
     let mut conn = conn;
-    match fill_new(&mut conn, user, account) {
+    match fill_new(&mut conn, user, account, V::number()) {
         Ok(()) => Ok(SqlBooks {
             conn: IndexConnection { conn },
             failures: 0,
             stores: 0,
+            version: PhantomData,
         }),
         Err(error) => Err(Unopened {
             why: open_fault_of(fault_of(error)),

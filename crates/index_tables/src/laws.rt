@@ -12,6 +12,7 @@ ghost use Rattle.index_tables.specs.Reopened.{CrashLeavesEitherTables, IsLeft, I
 
 use crate::books::SqlBooks;
 use crate::opening::Unopened;
+use crate::version::{Version, Version2};
 use index_sql_schema::IndexConnection;
 use sqlite::{Alter, Connection, FileStore};
 use sqlite_disk::Disk;
@@ -22,12 +23,15 @@ use std::alloc::Global;
 /// because memory runs out or the store fails.
 pub fn left_is_found_again<D: Disk, S: Alter>(
     alloc: Global,
-    books: SqlBooks<FileStore<D>>,
+    books: SqlBooks<FileStore<D>, Version2>,
     conn: Connection<S>,
-) -> (SqlBooks<FileStore<D>>, Result<SqlBooks<S>, Unopened<S>>)
+) -> (
+    SqlBooks<FileStore<D>, Version2>,
+    Result<SqlBooks<S, Version2>, Unopened<S>>,
+)
     requires outside { conn.in_transaction ≡ false }
     ensures same { result.0 ≡ books }
-    ensures rest { (left : Image) → IsHonest (file_state books.conn) → IsLeft books.conn left →
+    ensures rest { (left : Image) → IsHonest 2 (file_state books.conn) → IsLeft books.conn left →
         IsOpenedOver S.Store left conn
         → OpensOnly S.Store (λ T. T ≡ tables_of over_files books.conn) result.1 }
     ensures during { (left : Image) (A B : Tables) → HasCleanDisk (file_state books.conn)
@@ -38,6 +42,7 @@ pub fn left_is_found_again<D: Disk, S: Alter>(
         conn: before,
         failures,
         stores,
+        version,
     } = books;
     let IndexConnection { conn: before } = before;
     let before = left_by(before);
@@ -47,21 +52,23 @@ pub fn left_is_found_again<D: Disk, S: Alter>(
             conn: IndexConnection { conn: before },
             failures,
             stores,
+            version,
         },
         opened,
     )
 }
 
 /// A crash between two calls leaves the tables of an honest index as they stand.
-pub fn honest_index_leaves_itself<S: Alter>(books: SqlBooks<S>) -> SqlBooks<S>
+pub fn honest_index_leaves_itself<S: Alter, V: Version>(books: SqlBooks<S, V>) -> SqlBooks<S, V>
     ensures same { result ≡ books }
-    ensures itself { IsHonest (state S.Store books.conn) → (T : Tables) →
-        Leaves (state S.Store books.conn) T → T ≡ tables_of S.Store books.conn }
+    ensures itself { IsHonest V.number (state S.Store books.conn) → (T : Tables) →
+        Leaves V.number (state S.Store books.conn) T → T ≡ tables_of S.Store books.conn }
 {
     let SqlBooks {
         conn,
         failures,
         stores,
+        version,
     } = books;
     let IndexConnection { conn } = conn;
     let conn = left_by(conn);
@@ -69,6 +76,7 @@ pub fn honest_index_leaves_itself<S: Alter>(books: SqlBooks<S>) -> SqlBooks<S>
         conn: IndexConnection { conn },
         failures,
         stores,
+        version,
     }
 }
 

@@ -2,10 +2,14 @@
 #![tactic(auto)]
 
 mod adopt;
-mod books;
+pub mod books;
 mod create;
 pub mod laws;
 mod opening;
+mod placed;
+pub mod version;
 
-pub use books::SqlBooks;
 pub use opening::Unopened;
+
+/// The tables of an index with the bytes of its files beside them, which `meta` says by version 2.
+pub type SqlBooks<S> = books::SqlBooks<S, version::Version2>;

@@ -18,7 +18,7 @@ returns-in-Index-Ok-Some-eq2 g c =
     record {
       found = search rules;
       meta = search rules;
-      opened = looked_opened g.S.Store IsRaised old new c.in-Index-Ok-Some-eq2.ensures.looks c.requires.rest refl (g.met.S.Store.settled new.store) index told;
+      opened = looked_opened 2 g.S.Store IsRaised old new c.in-Index-Ok-Some-eq2.ensures.looks c.requires.rest refl (g.met.S.Store.settled new.store) index told;
       why = tt;
       refused = tt;
     }

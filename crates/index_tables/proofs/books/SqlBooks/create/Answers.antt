@@ -26,18 +26,18 @@ returns-in-Ok-clause-history g c =
 pub returns-in-Ok-clause-made : goal.returns-in-Ok-clause-made
 returns-in-Ok-clause-made g c =
     let same : one_user c.in-Ok.user c.in-Ok.account ≡ first_tables c.args.user.now c.args.token = search rules in
-    subst₂ (λ T held. IfOk c.fill_blank.result (AreNew g.S.Store T held)) same c.expose_invariants-conn.ensures.same c.fill_blank.ensures.made
+    subst₂ (λ T held. IfOk c.fill_blank.result (AreNew g.V.Version.number g.S.Store T held)) same c.expose_invariants-conn.ensures.same c.fill_blank.ensures.made
 
 pub returns-in-Ok-clause-refused : goal.returns-in-Ok-clause-refused
 returns-in-Ok-clause-refused g c =
     let T = first_tables c.args.user.now c.args.token in
-    let asks = asks_of_new c.args.user.now (first_record c.args.token) in
+    let asks = asks_of_new g.V.Version.number c.args.user.now (first_record c.args.token) in
     let same : one_user c.in-Ok.user c.in-Ok.account ≡ T = search rules in
-    let same_asks : asks_of_new c.in-Ok.user c.in-Ok.account ≡ asks = search rules in
-    subst (λ held. IfErr c.fill_blank.result (IsNotMade g.S.Store T asks held)) c.expose_invariants-conn.ensures.same
-    (subst₂ (λ T asks. IfErr c.fill_blank.result (IsNotMade g.S.Store T asks c.expose_invariants-conn.result)) same same_asks c.fill_blank.ensures.refused)
+    let same_asks : asks_of_new g.V.Version.number c.in-Ok.user c.in-Ok.account ≡ asks = search rules in
+    subst (λ held. IfErr c.fill_blank.result (IsNotMade g.V.Version.number g.S.Store T asks held)) c.expose_invariants-conn.ensures.same
+    (subst₂ (λ T asks. IfErr c.fill_blank.result (IsNotMade g.V.Version.number g.S.Store T asks c.expose_invariants-conn.result)) same same_asks c.fill_blank.ensures.refused)
 
 pub returns-in-Err-clause-refused : goal.returns-in-Err-clause-refused
 returns-in-Err-clause-refused g c =
-    subst (λ held. IsNotMade g.S.Store (first_tables c.args.user.now c.args.token) (asks_of_new c.args.user.now (first_record c.args.token)) held (record { why = c.in-Err.why; conn = c.expose_invariants-conn.result })) c.expose_invariants-conn.ensures.same
+    subst (λ held. IsNotMade g.V.Version.number g.S.Store (first_tables c.args.user.now c.args.token) (asks_of_new g.V.Version.number c.args.user.now (first_record c.args.token)) held (record { why = c.in-Err.why; conn = c.expose_invariants-conn.result })) c.expose_invariants-conn.ensures.same
     (refused_at_once g.S.Store c.expose_invariants-conn.result c.in-Err.why (search rules) (search rules))

@@ -12,5 +12,5 @@ returns-clause-looks g c =
     let old : BooksState _ = record { conn = c.self.inside.conn; failures = c.self.inside.failures; stores = c.self.inside.stores } in
     let count : new.failures ≡ next_count old.failures (is_ok c.find_body-body.result) = search rules in
     let stores : CountsStoreFault old.stores new.stores (fails_by_store c.find_body-body.result) = search rules in
-    subst (λ before. SqlLooks g.S.Store before new (is_ok c.find_body-body.result) (fails_by_store c.find_body-body.result)) c.self.view_is
-    (looks_up g.S.Store old new _ _ c.find_body-body.ensures.looks count stores)
+    subst (λ before. SqlLooks g.V.Version.number g.S.Store before new (is_ok c.find_body-body.result) (fails_by_store c.find_body-body.result)) c.self.view_is
+    (looks_up g.V.Version.number g.S.Store old new _ _ c.find_body-body.ensures.looks count stores)

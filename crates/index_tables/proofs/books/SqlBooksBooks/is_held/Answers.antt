@@ -14,4 +14,4 @@ returns g c =
     let old : BooksState _ = record { conn = c.self.inside.conn; failures = c.self.inside.failures; stores = c.self.inside.stores } in
     let count : new.failures ≡ next_count old.failures (is_ok c.is_held-held.result) = search rules in
     let stores : CountsStoreFault old.stores new.stores (fails_by_store c.is_held-held.result) = search rules in
-    subst (λ before. LooksFor g.S.Store before new c.is_held-held.result (λ T it. it ≡ is_held (get T.names c.args.name.now))) c.self.view_is (finds g.S.Store old new _ _ c.is_held-held.ensures count stores)
+    subst (λ before. LooksFor g.V.Version.number g.S.Store before new c.is_held-held.result (λ T it. it ≡ is_held (get T.names c.args.name.now))) c.self.view_is (finds g.V.Version.number g.S.Store old new _ _ c.is_held-held.ensures count stores)

@@ -16,5 +16,5 @@ returns g c =
     let count : new.failures ≡ next_count old.failures (not (has_fault c.walk_held-ended.result)) = search rules in
     let stores : CountsStoreFault old.stores new.stores (ends_by_store c.walk_held-ended.result) = search rules in
     let taker = to_taker g.K.Taker.takes g.K.Taker.stops c.args.taker.now c.walk_held-ended.new.taker in
-    subst (λ before. WalksBooks rows_in (with_books g.S.Store before new) taker c.walk_held-ended.result) c.self.view_is
-    (walks rows_in (with_books g.S.Store old new) taker c.walk_held-ended.result c.walk_held-ended.ensures count stores)
+    subst (λ before. WalksBooks rows_in (with_books g.V.Version.number g.S.Store before new) taker c.walk_held-ended.result) c.self.view_is
+    (walks rows_in (with_books g.V.Version.number g.S.Store old new) taker c.walk_held-ended.result c.walk_held-ended.ensures count stores)

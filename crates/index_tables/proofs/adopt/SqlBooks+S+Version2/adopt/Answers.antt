@@ -7,7 +7,7 @@ use Rattle.index_tables.proofs.AdoptLemmas.{fault_alone, reason_of_kind, stand_a
 use Rattle.index_tables.proofs.OpenedLemmas.{refused_at_once, unopened_by}
 use Rattle.index_tables.specs.Adopted.{IsRaised, IsReason, StandAsFound}
 use Rattle.index_tables.specs.Opened.{AreOpened, HaveTables, IsUnopened}
-use Rattle.index_tables.proofs.books.SqlBooks.adopt.Goals as goal
+use Rattle.index_tables.proofs.adopt.SqlBooks+S+Version2.adopt.Goals as goal
 
 pub returns-then-not-has_meta-clause-refused : goal.returns-then-not-has_meta-clause-refused
 returns-then-not-has_meta-clause-refused g c =
@@ -28,7 +28,7 @@ returns-in-Ok-Some-clause-one_bearer g c =
 
 pub returns-in-Ok-Some-clause-opened : goal.returns-in-Ok-Some-clause-opened
 returns-in-Ok-Some-clause-opened g c =
-    subst (λ held. IfOk c.adopt_kind.result (AreOpened g.S.Store IsRaised held)) c.expose_invariants-conn.ensures.same c.adopt_kind.ensures.opened
+    subst (λ held. IfOk c.adopt_kind.result (AreOpened 2 g.S.Store IsRaised held)) c.expose_invariants-conn.ensures.same c.adopt_kind.ensures.opened
 
 pub returns-in-Ok-Some-clause-refused : goal.returns-in-Ok-Some-clause-refused
 returns-in-Ok-Some-clause-refused g c =
