@@ -37,27 +37,9 @@ use Rattle.index.proofs.ChainLemmas.{stand_by_runs}
 use Rattle.std.proofs.Math.Logic.{∥∥₁_map}
 use Rattle.index.specs.Runs.{HoldsNone}
 use Rattle.index.specs.Tasks.{AreAmong, Task, AnswerLines, AnswerConnections, WriteReport, CountWrong}
-use Rattle.index.proofs.ServedLemmas.{itself, served_bound}
+use Rattle.index_cli.proofs.FilesServed.{after_call, after_call_is, answered_each, as_is, itself, longer}
+use Rattle.index.proofs.ServedLemmas.{served_bound}
 use Rattle.index.proofs.ThereLemmas.{current_is_there}
-
--- ---- fronts
-
-longer : (a b c : History) → IsFrontOf a b → IsFrontOf b c → IsFrontOf a c
-longer a b (begins user token) front is = subst (IsFrontOf a) is front
-longer a b (more h e) front (inl is) = subst (IsFrontOf a) is front
-longer a b (more h e) front (inr earlier) = inr (longer a b h front earlier)
-
-as_is : (h h' : History) → h' ≡ h → IsFrontOf h h'
-as_is h h' is = subst (IsFrontOf h) (sym is) (itself h)
-
-after_call : (h : History) (call : Call) (answer : Answer) → IsFrontOf h (history_after h call answer)
-after_call h call Accepted = inr (itself h)
-after_call h call Already = itself h
-after_call h call (Refused refusal) = itself h
-after_call h call (Fault fault) = itself h
-
-after_call_is : (h : History) (call : Call) (answer : Answer) (h' : History) → h' ≡ history_after h call answer → IsFrontOf h h'
-after_call_is h call answer h' is = subst (IsFrontOf h) (sym is) (after_call h call answer)
 
 -- ---- what is told of lines
 
@@ -74,35 +56,6 @@ told_lines h (asked ∷ lines) text h' it =
       | inr short ↦ told_asked (line_of asked) h it.0 it.2 (it.3.0 short)
     ]) (told_lines it.2 lines it.1 h' it.4)
 
--- ---- what is answered on connections
-
-acted : (Cause : Type 0) (by_put : Bool) (h : History) (call : Option Call) (reply : Reply) (h' : History) → Acts by_history Cause by_put h call reply h' → IsFrontOf h h'
-acted Cause by_put h None reply h' it = as_is h h' it.1
-acted Cause by_put h (Some call) reply h' it = after_call_is h call it.0 h' it.3
-
-replied : (Cause : Type 0) (at : ℕ) (h : History) (request : HttpRequest) (body : Bytes) (reads : Bool) (reply : Reply) (h' : History)
-    → RequestGetsReply by_history Cause at h request body reads reply h' → IsFrontOf h h'
-replied Cause at h request body true reply h' it = as_is h h' it.1
-replied Cause at h request body false reply h' it = acted Cause _ h _ reply h' it
-
-replied_to : (Cause : Type 0) (at : ℕ) (h : History) (message : Message) (text : Bytes) (h' : History) → MessageGetsText by_history Cause at h message text h' → IsFrontOf h h'
-replied_to Cause at h (Faulty fault is_head) text h' it = as_is h h' it.1
-replied_to Cause at h (Whole request body) text h' it = replied Cause at h request body _ it.0 h' it.2
-
-sent : (IsReply : Bytes → Type 0) (h h' : History) → ((text : Bytes) → IsReply text → IsFrontOf h h') → (before after : Option Bytes) (result : Result (Unit {0}) IoEnd)
-    → ReplyEnds IsReply (h' ≡ h) before after result → IsFrontOf h h'
-sent IsReply h h' front before after (Ok done) it = front it.0 it.1
-sent IsReply h h' front before after (Err (io.WriteFault count)) it = front it.0 it.1
-sent IsReply h h' front before after (Err (io.Cut count)) it = front it.0 it.1
-sent IsReply h h' front before after (Err io.ReadFault) it = as_is h h' it.0
-sent IsReply h h' front before after (Err io.OutOfMemory) it = as_is h h' it.0
-
-answered_each : (exchanges : List Exchange) (h h' : History) → ExchangesAreAnswered by_history exchanges h h' → IsFrontOf h h'
-answered_each [] h h' it = as_is h h' it
-answered_each (exchange ∷ earlier) h h' it =
-    longer h it.0 h' (answered_each earlier h it.0 it.1)
-    (sent _ it.0 h' (λ text is. replied_to _ exchange.at it.0 is.1 text h' is.4) exchange.had exchange.has it.2.ended it.2.ends)
-
 -- ---- what may be left
 
 become : (h h' : History) (calls : List Call) (answers : List Answer) (T : Tables) → MayBecome h h' calls answers T → IsFrontOf h h'
@@ -113,7 +66,7 @@ become h h' (call ∷ calls) (Accepted ∷ answers) T it = longer h (history_aft
 become h h' (call ∷ calls) (Already ∷ answers) T it = become h h' calls answers T it
 become h h' (call ∷ calls) (Refused refusal ∷ answers) T it = become h h' calls answers T it
 become h h' (call ∷ calls) (Fault fault ∷ answers) T (inl it) = become h h' calls answers T it
-become h h' (call ∷ calls) (Fault fault ∷ answers) T (inr it) = after_call_is h call Accepted h' (sym it.2)
+become h h' (call ∷ calls) (Fault fault ∷ answers) T (inr it) = after_call_is h call Accepted h' (sym it.1.1)
 
 -- ---- a run
 

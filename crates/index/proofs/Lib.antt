@@ -1,3 +1,4 @@
+pub mod CausedLemmas
 pub mod ChainLemmas
 pub mod FaultLemmas
 pub mod FilesLemmas
@@ -22,5 +23,6 @@ pub mod WrongMessages
 pub mod WrongReplies
 pub mod WrongTexts
 pub mod ServesLemmas
+pub mod LinesLemmas
 pub mod RefutedLemmas
 pub mod RefusedLemmas

@@ -45,17 +45,17 @@ use Rattle.index.specs.Openings.{HoldsOnly, IsCleanClosed, OpensAgain, Refused, 
 use Rattle.index.specs.Runs.{Began, CrashLeavesDatabase, CrashLeavesOnlyTables, Created, CreatedInLog, FindsOnly, Holds, HoldsAfterCrash, HoldsCurrent, HoldsNone, Interrupted, IsMadeNew, Ran, Worked}
 
 -- an index of today is found as it is, and never as one of version 1
-same_found : (db other : Database) (T found : Tables) → IsCurrent db T → IsFound other found → other.trees ≡ db.trees → found ≡ T
+same_found : (db other : Database) (T found : Tables) → IsCurrent 2 db T → IsFound other found → other.trees ≡ db.trees → found ≡ T
 same_found db other T found current (inl it) same = it.tables ∙ (ap tables_in same ∙ sym current.tables)
 same_found db other T found current (inr it) same =
     absurd (let told : Some 1 ≡ Some 2 = sym it.version ∙ (ap version_in same ∙ current.version) in cc)
 
 -- an index of today is found with its tables
-pub tables_of_found : (db : Database) (found : Tables) → IsFound db found → AreCurrent db.trees → found ≡ tables_in db.trees
+pub tables_of_found : (db : Database) (found : Tables) → IsFound db found → AreCurrent 2 db.trees → found ≡ tables_in db.trees
 tables_of_found db found (inl it) current = it.tables
 tables_of_found db found (inr it) current = absurd (let told : Some 1 ≡ Some 2 = sym it.version ∙ current.version in cc)
 
-keeps_of : (image : Image) (db : Database) (T : Tables) → IsCurrent db T → HoldsAlone image db.trees → HoldsCurrent image T
+keeps_of : (image : Image) (db : Database) (T : Tables) → IsCurrent 2 db T → HoldsAlone image db.trees → HoldsCurrent image T
 keeps_of image db T current held = record {
   db = db;
   current = current;
@@ -88,7 +88,7 @@ module _ {D : Type 0} {g : Ghosts D} where
   pub working_of : (last : Held (FileStore D g)) (files : Files D) → IsCopied last files → IsWorking (file_state last)
   working_of last files copied = record { clean = copied.was_clean; is_open = copied.was_open }
 
-  pub leaves_of : (last : Held (FileStore D g)) (files : Files D) (T : Tables) → IsCopied last files → IsCommitted (file_state last) T → HoldsAfterCrash g files T
+  pub leaves_of : (last : Held (FileStore D g)) (files : Files D) (T : Tables) → IsCopied last files → IsCommitted 2 (file_state last) T → HoldsAfterCrash g files T
   leaves_of last files T copied committed =
       let db = (file_state last).now in
       let same : (file_state last).committed ≡ db = sym committed.committed in

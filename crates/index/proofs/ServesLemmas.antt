@@ -6,7 +6,7 @@ use Rattle.index_cli.specs.declared.end.ServeEnd.{ServeEnd}
 use Rattle.index_cli.specs.declared.end.ServeEnd.TheVariants as serve_end
 use Rattle.index_cli.specs.ServesFront.{LeavingTables, ServesFirst}
 use Rattle.index_cli.specs.Serving.{IsCount, ServesByHistory, Serves}
-use Rattle.index_desk.specs.Crashes.{CallsLeaveHistory, CallsLeaveTables}
+use Rattle.index_desk.specs.Crashes.{CallsLeave}
 use Rattle.index_desk.specs.Rules.{by_history, by_tables}
 use Rattle.index_rules.specs.History.{History}
 use Rattle.index_rules.specs.Legal.{IsLegal}
@@ -72,8 +72,8 @@ module _ (Are Are' : List Exchange → Type 0) (are : (exchanges : List Exchange
         (it.0, up_to requests ended it.0 it.1, record { exchanges = it.2.exchanges; are = are it.2.exchanges it.2.are; answered = it.2.answered; counted = it.2.counted; are_given = it.2.are_given });
   }
 
-  pub serves_left : (T T' : Tables) → (count : ℕ) × IsCount requests ended count × ServesFirst (LeavingTables Are (CallsLeaveTables T) T') by_tables at count T
-      → ((h : History) → IsLegal h → StandsFor T h → (count : ℕ) × IsCount requests ended count × ServesFirst (LeavingTables Are (CallsLeaveHistory h) T') by_history at count h)
+  pub serves_left : (T T' : Tables) → (count : ℕ) × IsCount requests ended count × ServesFirst (LeavingTables Are (CallsLeave by_tables T) T') by_tables at count T
+      → ((h : History) → IsLegal h → StandsFor T h → (count : ℕ) × IsCount requests ended count × ServesFirst (LeavingTables Are (CallsLeave by_history h) T') by_history at count h)
       → LeavesConnections Are' at requests T T' (end_of_serving ended)
   serves_left T T' it by = record {
     tables = (it.0, up_to requests ended it.0 it.1, record { exchanges = it.2.exchanges; are = (are it.2.exchanges it.2.are.0, it.2.are.1); answered = it.2.answered; counted = it.2.counted; are_given = it.2.are_given });

@@ -22,7 +22,7 @@ use Rattle.sqlite_value.specs.declared.value.Value.TheVariants.{Text}
 use Rattle.index_cli.specs.LineCalls.{LineCallsLeave}
 use Rattle.index_cli.proofs.Choices.{LinesEnd-choice, LeavingTables-choice, LineCallsLeave-choice}
 use Rattle.index_desk.specs.Rules.{by_tables}
-use Rattle.index_desk.specs.Crashes.{CallsLeaveTables}
+use Rattle.index_desk.specs.Crashes.{CallsLeave}
 use Rattle.index_names.specs.FileName as names
 use Rattle.index_rules.specs.declared.answer.Answer.{Answer}
 use Rattle.index_rules.specs.declared.answer.Answer.TheVariants.{Accepted, Already, Refused, Fault}
@@ -87,7 +87,7 @@ has_of_two schema other db some named sound sound' =
     has_any_first schema index_schema.tables refl (has_named schema schema.tables (first_name index_schema.tables) refl is.0 (is.1 ∙ named))
 
 -- files that hold nothing of an index hold none of these trees
-pub not_these : {image : Image} (none : HoldsNone image) (db : Trees) → none.db.trees ≡ db → AreCurrent db → ⊥
+pub not_these : {image : Image} (none : HoldsNone image) (db : Trees) → none.db.trees ≡ db → AreCurrent 2 db → ⊥
 not_these none db same current =
     false≢true (sym none.free ∙ has_of_two none.db.schema index_schema db refl refl (subst (λ trees. IsSound none.db.schema trees) same none.sound) current.index.sound)
 
@@ -128,7 +128,7 @@ keeps_empty T at token (BanFile file) accepts =
     put_other T.bans file (other_than_empty file reads)
 keeps_empty T at token request accepts = refl
 
-leaves_empty : (T : Tables) (calls : List Call) (answers : List Answer) (T' : Tables) → CallsLeaveTables T calls answers T' → get T'.bans [] ≡ get T.bans []
+leaves_empty : (T : Tables) (calls : List Call) (answers : List Answer) (T' : Tables) → CallsLeave by_tables T calls answers T' → get T'.bans [] ≡ get T.bans []
 leaves_empty T [] [] T' it = ap (λ (T : Tables). get T.bans []) it
 leaves_empty T [] (answer ∷ answers) T' it = absurd it
 leaves_empty T (call ∷ calls) [] T' it = absurd it
@@ -137,18 +137,18 @@ leaves_empty T (call ∷ calls) (Accepted ∷ answers) T' it =
 leaves_empty T (call ∷ calls) (Already ∷ answers) T' it = leaves_empty T calls answers T' it
 leaves_empty T (call ∷ calls) (Refused refusal ∷ answers) T' it = leaves_empty T calls answers T' it
 leaves_empty T (call ∷ calls) (Fault fault ∷ answers) T' (inl it) = leaves_empty T calls answers T' it
-leaves_empty T (call ∷ calls) (Fault fault ∷ answers) T' (inr it) = ap (λ (T : Tables). get T.bans []) it.2 ∙ keeps_empty T call.at call.token call.request it.1
+leaves_empty T (call ∷ calls) (Fault fault ∷ answers) T' (inr it) = ap (λ (T : Tables). get T.bans []) it.1.1 ∙ keeps_empty T call.at call.token call.request it.1.0
 
 abbrev KeepsEmpty : Tables → Tables → Type 0
 KeepsEmpty T T' = get T'.bans [] ≡ get T.bans []
 
 left_keeps : (task : Task) (result : Result ℕ End) (T T' : Tables) → TaskMayLeave task result T T' → KeepsEmpty T T'
 left_keeps (AnswerLines given left had has) result T T' it =
-    (LinesEnd-choice (KeepsEmpty T T') (LineCallsLeave (CallsLeaveTables T)) (λ a lines text T. Unit {0}) T'
-    (λ lines text told. ((LineCallsLeave-choice (KeepsEmpty T T') T' (CallsLeaveTables T) (λ a calls answers T. Unit {0}) (λ calls answers leaves. (leaves_empty T calls answers T' leaves, tt)) lines text told).0, tt))
+    (LinesEnd-choice (KeepsEmpty T T') (LineCallsLeave (CallsLeave by_tables T)) (λ a lines text T. Unit {0}) T'
+    (λ lines text told. ((LineCallsLeave-choice (KeepsEmpty T T') T' (CallsLeave by_tables T) (λ a calls answers T. Unit {0}) (λ calls answers leaves. (leaves_empty T calls answers T' leaves, tt)) lines text told).0, tt))
     given left had has it.ended it.tables).0
 left_keeps (AnswerConnections at requests coming coming' replies replies') result T T' it =
-    (LeavingTables-choice (AreAmong coming coming' replies replies') (KeepsEmpty T T') T' (CallsLeaveTables T) (λ a calls answers T. Unit {0}) (λ calls answers leaves. (leaves_empty T calls answers T' leaves, tt)) by_tables at it.tables.0 T it.tables.2).0
+    (LeavingTables-choice (AreAmong coming coming' replies replies') (KeepsEmpty T T') T' (CallsLeave by_tables T) (λ a calls answers T. Unit {0}) (λ calls answers leaves. (leaves_empty T calls answers T' leaves, tt)) by_tables at it.tables.0 T it.tables.2).0
 left_keeps (WriteReport had has) result T T' it = ap (λ (T : Tables). get T.bans []) it
 left_keeps CountWrong result T T' it = ap (λ (T : Tables). get T.bans []) it
 

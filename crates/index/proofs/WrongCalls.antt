@@ -1,5 +1,6 @@
 -- Wrong outcomes of calls, of lines and of replies do not meet the words of the contracts.
-use Rattle.std.proofs.Common.{◌≡◌, ℕ, true, false, Result, Ok, Err, refl, ap}
+use Rattle.std.proofs.Common.{◌≡◌, ℕ, true, false, Result, Ok, Err, refl, ap, subst, sym}
+use Rattle.index_rules.specs.Runs.{Runs}
 use Rattle.std.specs.Prelude.{is_ok}
 use Rattle.index_io.specs.declared.sink.Sink.{Ghosts as Outs}
 use Rattle.index_io.specs.declared.source.Source.{Ghosts as Ins}
@@ -11,9 +12,11 @@ use Rattle.index.specs.RefutedCalls.{RefutesEachCall, RefutesStreams}
 pub refutes_calls : {S : Type 0} (g : Ghosts S) → RefutesEachCall g
 refutes_calls g old new honest one = record {
   settles = λ answer other changed it. changed (it.unchanged honest other);
-  verdict = λ call answer wrong it. wrong (it.verdict honest one);
-  next = λ call answer wrong it. wrong (it.next honest one);
-  in_turn = λ calls answers wrong it. wrong (it.runs honest one);
+  verdict = λ call answer wrong it. wrong ((it.taken honest).tables one).0;
+  next = λ call answer wrong it. wrong ((it.taken honest).tables one).1;
+  in_turn = λ calls answers wrong it.
+      let ran = (it.runs honest).tables one in
+      wrong (subst (Runs (g.tables old) calls answers) (sym ran.shows) ran.is);
 }
 
 is_no_fault : (count : ℕ) → ¬ (Ok count ≡ Err line_end.WriteFault)

@@ -1,23 +1,12 @@
 -- A head with another status is another head, and the reply to a fault is no reply to a bad head.
 use Rattle.std.proofs.Common.{◌≡◌, ◌∙◌, ◌+◌, ◌/◌, ◌%◌, ◌<◌, ℕ, Bool, true, false, List, [], ◌∷◌, ◌++◌, take, drop, refl, sym, ap, arith}
+use Rattle.index_cli.proofs.FilesServed.{digits_of, first_of, rest_of, same_digits}
 use Rattle.index_message.specs.declared.fault.MessageFault.TheVariants.{BadHead}
 use Rattle.index_http.specs.Replies.{Reply, answer_reply, head_text, message_reply, reply_head, reply_text}
 use Rattle.index_rules.specs.declared.answer.Answer.TheVariants as answer
 use Rattle.index_rules.specs.declared.answer.Fault.{Fault}
 use Rattle.index_rules.specs.declared.answer.Fault.TheVariants.{OutOfMemory, Store}
 use Rattle.index_rules.specs.Maps.{Bytes}
-
-abbrev first_of : List ℕ → ℕ
-first_of [] = 0
-first_of (x ∷ xs) = x
-
-abbrev rest_of : List ℕ → List ℕ
-rest_of [] = []
-rest_of (x ∷ xs) = xs
-
--- the three digits of a status
-abbrev pub digits_of : ℕ → List ℕ
-digits_of n = (48 + n / 100) ∷ (48 + n / 10 % 10) ∷ (48 + n % 10) ∷ []
 
 -- what is behind the version of a head
 abbrev behind_version : List ℕ → List ℕ
@@ -26,14 +15,6 @@ behind_version text = drop 9 text
 digits_in : (status : ℕ) (fields : Bytes) (size : ℕ) → take 3 (behind_version (reply_head status fields size)) ≡ digits_of status
 unfolding reply_head head_text
 digits_in status fields size = refl
-
--- the digits of a status
-pub same_digits : (status other : ℕ) → status < 1000 → other < 1000 → digits_of other ≡ digits_of status → other ≡ status
-same_digits status other low below same =
-    let hundreds : 48 + other / 100 ≡ 48 + status / 100 = ap first_of same in
-    let tens : 48 + other / 10 % 10 ≡ 48 + status / 10 % 10 = ap (λ (it : List ℕ). first_of (rest_of it)) same in
-    let ones : 48 + other % 10 ≡ 48 + status % 10 = ap (λ (it : List ℕ). first_of (rest_of (rest_of it))) same in
-    omega (arith, low, below, hundreds, tens, ones)
 
 pub same_status : (status other : ℕ) (fields lines : Bytes) (size more : ℕ) → status < 1000 → other < 1000
     → reply_head other lines more ≡ reply_head status fields size → other ≡ status

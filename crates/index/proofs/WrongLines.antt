@@ -96,16 +96,16 @@ module _ {S : Type 0} (rules : Rules S) (line text : Bytes) (long : longest_line
   shut_text s (first, more, between, whole, one, inl later) = absurd later
   shut_text s (first, more, between, whole, one, inr (fault, none)) = whole_text first more text (one.1 long).0 none whole
 
-  front_text : (s : S) (T : Tables) → TextAnswersFront rules s (line ∷ []) text T → text ≡ with_feed bad_body_text
-  front_text s T (inl told) = long_text s told.0 told.1
-  front_text s T (inr shut) = shut_text s shut
+  front_text : (s : S) → TextAnswersFront rules s (line ∷ []) text → text ≡ with_feed bad_body_text
+  front_text s (inl told) = long_text s told.0 told.1
+  front_text s (inr shut) = shut_text s shut
 
 pub refutes_long_line : (line text : Bytes) → longest_line < length line → RefutesLongLine line text
 refutes_long_line line text long = record {
   tables = λ T T' other it. other (long_text by_tables line text long T T' it);
-  history = λ h T' other it. other (long_text by_history line text long h it.after it.told);
-  front = λ T T' other it. other (front_text by_tables line text long T T' it);
-  past = λ h T' other it. other (front_text by_history line text long h T' it);
+  history = λ h T' other it. other (long_text by_history line text long h it.later it.is);
+  front = λ T T' other it. other (front_text by_tables line text long T it);
+  past = λ h T' other it. other (front_text by_history line text long h it);
   changed = λ T T' changed it. changed (long_state by_tables line text long T T' it);
   crash = λ T T' none it. none (it.3.1 long).1;
   crash_history = λ h T' none it. none (it.3.1 long).1;

@@ -107,7 +107,7 @@ module _ {S K : Type 0} (g : Ghosts S) (out : Outs K) (old new : S) (before afte
         missing (subst Sent is.0 replied.2);
     history = λ h legal stands missing it.
         let one = it honest h legal stands in
-        let ends = one.ends in
+        let ends = one.is in
         let is = bad_head_replied by_history at h input none _ ends.0 one.later ends.1 in
         missing (subst Sent is.0 ends.2);
     asks = λ result changed it.

@@ -199,18 +199,18 @@ no_failure_shown g out old new before after clean at input none was failed it = 
 refutes_headless : (at : ℕ) (input : Bytes) (had has : Option Bytes) (faults : StreamFaults) → HasNoHead input → RefutesHeadless at input had has faults
 refutes_headless at input had has faults none = record {
   text = λ before after h T' wrong it.
-      let ends = it.ends in
+      let ends = it.is in
       wrong (subst (λ (it : Bytes). Appends had has it) (bad_head_replied by_history at h input none (HasFailed before after) ends.0 it.later ends.1).0 ends.2);
   stands = λ before after h result T' other it.
-      other (subst (λ (it : History). StandsFor T' it) (unchanged by_history at h input none (HasFailed before after) it.later had has result it.ends) it.stands);
+      other (subst (λ (it : History). StandsFor T' it) (unchanged by_history at h input none (HasFailed before after) it.later had has result it.is) it.shows.1);
   tables = λ T T' changed it. changed (unchanged by_tables at T input none (HasFailed it.failures it.later_failures) T' had has it.ended it.ends);
   front = λ T T' wrong it.
       let front = front_sent by_tables at T input none (HasFailed it.failures it.later_failures) T' had has it.ended it.ends in
       wrong front.0 front.1;
   history = λ h T' other it.
-      let one = it.answers in
+      let one = it.is in
       let same = unchanged by_history at h input none (HasFailed one.failures one.later_failures) it.later had has one.ended one.ends in
-      other (subst (λ (it : History). StandsFor T' it) same it.stands);
+      other (subst (λ (it : History). StandsFor T' it) same it.shows.1);
   whole = λ T. whole_is_none by_tables at T input none;
   fails = λ T it. no_request input none it.asked;
 }

@@ -1,7 +1,7 @@
 -- The text of a failed store is that of no other reply to a line.
 use Rattle.std.proofs.Common.{◌≡◌, ◌∙◌, ◌⊎◌, ℕ, List, [], ◌∷◌, drop, refl, sym, ap, inl, inr, arith}
-use Rattle.index_desk.specs.declared.standing.Standing.{Standing}
-use Rattle.index_desk.specs.declared.standing.Standing.TheVariants as standing
+use Rattle.index_rules.specs.declared.standing.Standing.{Standing}
+use Rattle.index_rules.specs.declared.standing.Standing.TheVariants as standing
 use Rattle.index_json.proofs.OnLiterals.{answers_on_literals}
 use Rattle.index_json.specs.AnswerText.{answer_text_of, bad_body_text}
 use Rattle.index_json.specs.StandingText.{standing_text_of}

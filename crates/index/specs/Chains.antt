@@ -22,7 +22,7 @@ use Rattle.index_cli.specs.Serving.{Serves}
 use Rattle.index_cli.specs.Telling.{TextAnswersLines}
 use Rattle.index_cli.specs.LineCalls.{LineCallsLeave}
 use Rattle.index_cli.specs.LineFronts.{TextAnswersFront}
-use Rattle.index_desk.specs.Crashes.{CallsLeaveState}
+use Rattle.index_desk.specs.Crashes.{CallsLeave}
 use Rattle.index_desk.specs.Rules.{by_history}
 use Rattle.index_rules.specs.declared.answer.Answer.{Answer}
 use Rattle.index_rules.specs.declared.call.Call.{Call}
@@ -156,7 +156,7 @@ pub record InitLeadsOn {D : Type 0} (g : Ghosts D) (user token : Bytes) (start :
 -- calls in a row may leave this history of another: with the accepted calls, or with these and one
 -- call that was answered with a fault after the last of them
 abbrev pub MayBecome : History → History → List Call → List Answer → Tables → Type 0
-MayBecome h h' = CallsLeaveState verdict_after history_after (λ left T'. left ≡ h') h
+MayBecome h h' = CallsLeave (record by_history { Shows = λ left T'. left ≡ h' }) h
 
 -- a task carried a history on to this one, with the accepted calls in order
 abbrev pub Carries : Task → Result ℕ End → History → History → Tables → Type 0
@@ -187,7 +187,7 @@ MayCarry CountWrong result h h' T' = h' ≡ h
 abbrev pub TaskTellsByHistory : Task → Result ℕ End → History → Tables → Type 0
 TaskTellsByHistory (AnswerLines given left had has) result h T =
     (ended : Result ℕ LineEnd) × (result ≡ end_of ended)
-    × LinesEnd (TextAnswersFront by_history h) T given left had has ended
+    × LinesEnd (λ lines text T. TextAnswersFront by_history h lines text) T given left had has ended
 TaskTellsByHistory (AnswerConnections at requests coming coming' replies replies') result h T =
     (count : ℕ) × IsUpTo requests result count
     × ServesFirst (AreAmong coming coming' replies replies') by_history at count h

@@ -1,15 +1,19 @@
 -- The ends of the program with status 1, and the faults of other layers behind them.
-use Rattle.std.specs.Prelude.{ℕ, ◌&&◌, Bool, true, false, None, Result, Ok, Err}
+use Rattle.std.specs.Prelude.{ℕ, ◌&&◌, ◌≡◌, Bool, true, false, None, Result, Ok, Err}
 use Rattle.std.specs.Prelude.{if◌then◌else◌}
 use Rattle.sqlite.specs.declared.error.Error.{Error}
 use Rattle.sqlite.specs.declared.error.Error.TheVariants.{SqliteFailure}
 use Rattle.sqlite.specs.declared.error.ErrorCode.TheVariants as code
 use Rattle.sqlite_disk.specs.declared.Disk.{Ghosts}
+use Rattle.index_cli.specs.Ends.{RunFailsOnly}
 use Rattle.index_cli.specs.declared.end.LineEnd.{LineEnd}
 use Rattle.index_cli.specs.declared.end.ServeEnd.{ServeEnd}
 use Rattle.index_cli.specs.declared.end.ServeEnd.TheVariants as serve_end
 use Rattle.index_desk.specs.declared.desk.report.ReportFault.{ReportFault}
 use Rattle.index_desk.specs.declared.desk.report.ReportFault.TheVariants as report_fault
+use Rattle.index_http.specs.Steps.{SinkStep}
+use Rattle.index_io.specs.Counts.{HasFailed}
+use Rattle.index_message.specs.Reads.{SourceStep}
 use Rattle.index_rules.specs.declared.answer.Fault.{Fault}
 use Rattle.index_rules.specs.declared.answer.Fault.TheVariants as fault
 use Rattle.index_rules.specs.declared.open.OpenFault.TheVariants as open_fault
@@ -59,6 +63,25 @@ end_of_serving (Err early) = Err (end.Connections early)
 abbrev pub end_of_reporting : Result (Unit {0}) ReportFault → Result ℕ End
 end_of_reporting (Ok done) = Ok 0
 end_of_reporting (Err fault) = Err (end_of_report fault)
+
+-- ---- what is known of why work ended early
+
+-- a run over lines ended as what it read from and wrote to says
+abbrev pub LinesAreCaused : {S K : Type 0} → ℕ → SourceStep S → SinkStep K → Result ℕ End → Type 0
+LinesAreCaused most source sink result = (ended : Result ℕ LineEnd) × (result ≡ end_of ended)
+    × RunFailsOnly most source sink ended
+
+-- connections ended for want of one only if the next one could not be accepted
+abbrev pub ServingIsCaused : Type 0 → Result ℕ End → Type 0
+ServingIsCaused CannotAccept result =
+    result ≡ Err (end.Connections serve_end.ReadFault) → CannotAccept
+
+-- a report failed to be written only if a write failed, or took no byte
+abbrev pub ReportIsCaused : {K : Type 0} → SinkStep K → Result ℕ End → Type 0
+ReportIsCaused sink result = result ≡ Err end.WriteFault
+    → HasFailed (sink.out.failures sink.old) (sink.out.failures sink.new)
+
+-- ---- closing
 
 -- The result of work whose files are closed too. If the database failed in both, the end of closing
 -- has the cause.

@@ -4,25 +4,19 @@ use Rattle.sqlite.specs.Recovery.{Image}
 use Rattle.index_digest.specs.Digest.{sha256}
 use Rattle.index_io.specs.Counts.{HasFailed}
 use Rattle.index_message.specs.Fields.{Field}
-use Rattle.index_message.specs.Requests.{HttpRequest}
 use Rattle.index_message.specs.declared.message.Message.TheVariants.{Whole}
-use Rattle.index_message.specs.declared.resource.Method.TheVariants.{Get}
-use Rattle.index_message.specs.declared.resource.Resource.TheVariants.{File}
 use Rattle.index_rules.specs.History.{History}
 use Rattle.index_rules.specs.Laws.{IsFrontOf}
 use Rattle.index_rules.specs.Legal.{IsLegal}
 use Rattle.index_rules.specs.Maps.{Bytes}
 use Rattle.index_rules.specs.StandsFor.{StandsFor}
 use Rattle.index_rules.specs.Tables.{Tables}
+use Rattle.index_cli.specs.FilesServed.{get_of_file}
 use Rattle.index_desk.specs.Rules.{by_history}
 use Rattle.index_http.specs.Exchanges.{MessageGetsText}
 use Rattle.index_http.specs.Replies.{file_reply, reply_text}
 use Rattle.index.specs.Chains.{ComesByRuns, LeadTo, Run}
 use Rattle.index.specs.Runs.{FindsOnly, Holds, HoldsNone}
-
--- a `GET` of a file name
-abbrev pub get_of_file : Bytes → List Field → HttpRequest
-get_of_file file fields = record { method = Get; resource = File file; fields = fields }
 
 -- at this point of the history, a `GET` of a file name may get the reply with status 200 and these
 -- bytes

@@ -167,7 +167,7 @@ IsUnfound start now = HasCleanDisk now → Refused IsRaised start now
 
 -- no index with these tables was made in the files' database
 abbrev pub IsUnmade : Tables → Image → State → Type 0
-IsUnmade T start now = HasCleanDisk now → Refused (IsCreated T) start now
+IsUnmade T start now = HasCleanDisk now → Refused (IsCreated 2 T) start now
 
 -- the hex digits are malformed, or this user and token can't be the first
 abbrev pub IsBadFirstUserByHex : Bytes → Bytes → Type 0
@@ -185,7 +185,7 @@ pub record IsWhyUnmade {S : Type 0}
       → IsTrue (has_any_of (state g first).now.schema index_schema.tables)
   -- a failed store has a cause, if its disk is clean
   pub store : HasCleanDisk (state g last)
-      → StoreForOthers g (asks_of_new user (first_record token)) first last why
+      → StoreForOthers g (asks_of_new 2 user (first_record token)) first last why
 
 -- Why no index was found in the database. Its objects and the cause are known only of a clean disk.
 pub record IsWhyUnfound {S : Type 0}

@@ -11,9 +11,9 @@ use Rattle.index_cli.specs.Serving.{IsCount}
 use Rattle.index_cli.specs.Telling.{TextAnswersLines}
 use Rattle.index_cli.specs.LineCalls.{LineCallsLeave}
 use Rattle.index_cli.specs.LineFronts.{TextAnswersFront}
-use Rattle.index_cli.specs.LineHistories.{HistoryAnswersLines}
+use Rattle.index_desk.specs.ByRules.{StandsAfter}
 use Rattle.index_cli.specs.declared.end.ServeEnd.{ServeEnd}
-use Rattle.index_desk.specs.Crashes.{CallsLeaveHistory, CallsLeaveTables}
+use Rattle.index_desk.specs.Crashes.{CallsLeave}
 use Rattle.index_desk.specs.Rules.{by_history, by_tables}
 use Rattle.index_json.specs.AnswerText.{answer_text_of, bad_body_text}
 use Rattle.index_rules.specs.declared.answer.Answer.TheVariants as answer
@@ -76,19 +76,19 @@ pub record RefutesLongLine (line text : Bytes) : Type 0 where
       → ¬ TextAnswersLines by_tables T (line ∷ []) text T'
   -- another answer by a history
   pub history : (h : History) (T' : Tables) → IsOtherText text
-      → ¬ HistoryAnswersLines h (line ∷ []) text T'
+      → ¬ StandsAfter by_history (TextAnswersLines by_history h (line ∷ []) text) T'
   -- another answer up to a fault
   pub front : (T T' : Tables) → IsOtherText text
-      → ¬ TextAnswersFront by_tables T (line ∷ []) text T'
+      → ¬ TextAnswersFront by_tables T (line ∷ []) text
   pub past : (h : History) (T' : Tables) → IsOtherText text
-      → ¬ TextAnswersFront by_history h (line ∷ []) text T'
+      → ¬ TextAnswersFront by_history h (line ∷ []) text
   -- a table changed
   pub changed : (T T' : Tables) → (¬ (T' ≡ T)) → ¬ TextAnswersLines by_tables T (line ∷ []) text T'
   -- a crash leaves tables that it can't leave without a call
-  pub crash : (T T' : Tables) → (¬ CallsLeaveTables T [] [] T')
-      → ¬ LineCallsLeave (CallsLeaveTables T) (line ∷ []) text T'
-  pub crash_history : (h : History) (T' : Tables) → (¬ CallsLeaveHistory h [] [] T')
-      → ¬ LineCallsLeave (CallsLeaveHistory h) (line ∷ []) text T'
+  pub crash : (T T' : Tables) → (¬ CallsLeave by_tables T [] [] T')
+      → ¬ LineCallsLeave (CallsLeave by_tables T) (line ∷ []) text T'
+  pub crash_history : (h : History) (T' : Tables) → (¬ CallsLeave by_history h [] [] T')
+      → ¬ LineCallsLeave (CallsLeave by_history h) (line ∷ []) text T'
 
 -- ---- numbers
 

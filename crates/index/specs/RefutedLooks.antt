@@ -6,7 +6,7 @@ use Rattle.index_io.specs.declared.sink.Sink.{Ghosts as Outs}
 use Rattle.index_desk.specs.Bodies.{AreBytesOf}
 use Rattle.index_desk.specs.Checks.{wrong_charges_in}
 use Rattle.index_desk.specs.Invariants.{KeepsInvariants}
-use Rattle.index_desk.specs.Looks.{HandsOver, LeavesTables, LooksAt, LooksAtBoth, ReadsTables}
+use Rattle.index_desk.specs.Looks.{HandsOver, LeavesTables, LooksAt, LooksBy, ReadsTables}
 use Rattle.index_desk.specs.Looks.{WalksTables}
 use Rattle.index_desk.specs.PastRows.{AreHeldRowsAfter}
 use Rattle.index_desk.specs.Reports.{ReportFailsOnly, Reports}
@@ -27,9 +27,8 @@ use Rattle.index_rules.specs.Tables.{Tables}
 
 -- a look for the bytes of a file, which found these
 abbrev pub FindsBytesOf : {S : Type 0} → Ghosts S → S → S → Bytes → Option Bytes → Type 0
-FindsBytesOf g old new file body = LooksAtBoth g old new (Ok body)
-    (λ T it. (it ≡ get T.bodies file) × (IsSound T → AreBytesOf T file it))
-    (λ h it. it ≡ body_after h file)
+FindsBytesOf g old new file body =
+    LooksBy g old new (Ok body) (λ S rules s. rules.Body s file)
 
 -- no look at the tables changes one of them
 pub record RefutesChanges {S : Type 0} (g : Ghosts S) (old new : S) : Type 0 where

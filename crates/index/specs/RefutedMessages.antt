@@ -4,8 +4,8 @@ use Rattle.std.specs.Prelude.{◌≡◌, ◌≤◌}
 use Rattle.index_io.specs.declared.sink.Sink.{Ghosts as Outs}
 use Rattle.index_desk.specs.Rules.{by_tables}
 use Rattle.index_desk.specs.Standings.{AreOwnersAfter, IsStandingAfter}
-use Rattle.index_desk.specs.declared.standing.HeldName.{HeldName}
-use Rattle.index_desk.specs.declared.standing.Standing.TheVariants as standing
+use Rattle.index_rules.specs.declared.standing.HeldName.{HeldName}
+use Rattle.index_rules.specs.declared.standing.Standing.TheVariants as standing
 use Rattle.index_message.specs.Heads.{HasNoHead, longest_head}
 use Rattle.index_message.specs.Messages.{EndsUnfinished, IsMessage, MayHaveHead}
 use Rattle.index_message.specs.Reads.{BytesTakenAtMost}

@@ -8,7 +8,7 @@ use Rattle.index_io.specs.Counts.{HasFailed, last_count}
 use Rattle.index_io.specs.declared.sink.Sink.{Ghosts as Outs}
 use Rattle.index_names.specs.FileName.{read_file_name}
 use Rattle.index_desk.specs.Looks.{LeavesTables}
-use Rattle.index_desk.specs.Rules.{by_tables}
+use Rattle.index_desk.specs.Rules.{by_history, by_tables}
 use Rattle.index_desk.specs.Standings.{standing_in}
 use Rattle.index_desk.specs.Takes.{Takes}
 use Rattle.index_json.specs.AnswerText.{answer_text_of, bad_body_text}
@@ -25,7 +25,8 @@ use Rattle.index_message.specs.declared.message.Message.{Message}
 use Rattle.index_message.specs.declared.message.Message.TheVariants.{Faulty, Whole}
 use Rattle.index_message.specs.declared.resource.Resource.TheVariants as resource
 use Rattle.index_http.specs.Asks.{MessageIsAnswered, text_of_answer}
-use Rattle.index_http.specs.Ends.{LastsOrFails, ReplyEndsByHistory, SentBytesShowFailure}
+use Rattle.index_http.specs.Ends.{EndsBy, LastsOrFails, SentBytesShowFailure}
+use Rattle.index_desk.specs.ByRules.{StandsAfter}
 use Rattle.index_http.specs.Exchanges.{IsFaultless, body_reply, call_of}
 use Rattle.index_http.specs.PagePasses.{Gathers}
 use Rattle.index_http.specs.Replies.{Reply, message_reply, reply_head, reply_text}
@@ -40,7 +41,7 @@ use Rattle.index_cli.specs.Replies.{KeptLineIsAnswered, LineFailsOnly, LineRepor
 use Rattle.index_cli.specs.Replies.{RepliesStanding, RepliesToLine}
 use Rattle.index_cli.specs.Replies.{line_reply_text, memory_fault_text}
 use Rattle.index_cli.specs.Serving.{AsksOne, DeskAnswersExchange, ExchangeIsAnswered}
-use Rattle.index_cli.specs.Serving.{ExchangeShowsFailure, NextConnectionIsAnswered, OneHistory}
+use Rattle.index_cli.specs.Serving.{ExchangeShowsFailure, NextConnectionIsAnswered}
 use Rattle.index_cli.specs.Steps.{on_connections}
 use Rattle.index_cli.specs.LineCalls.{AsksKept}
 use Rattle.index_cli.specs.declared.end.LineEnd.{LineEnd}
@@ -145,11 +146,13 @@ pub record RefutesHeadless (at : ℕ) (input : Bytes) (had has : Option Bytes)
   -- its reply is not the one to a malformed head
   pub text : (before after : ℕ) (h : History) (T' : Tables)
       → (¬ Appends had has (bad_head_text input))
-      → ¬ ReplyEndsByHistory (HasFailed before after) at h (Some input) had has (Ok tt) T'
+      → ¬ StandsAfter by_history
+      (EndsBy by_history (HasFailed before after) at (Some input) had has (Ok tt) h) T'
   -- the tables do not stand for the history before
   pub stands : (before after : ℕ) (h : History) (result : Result (Unit {0}) IoEnd) (T' : Tables)
       → (¬ StandsFor T' h)
-      → ¬ ReplyEndsByHistory (HasFailed before after) at h (Some input) had has result T'
+      → ¬ StandsAfter by_history
+      (EndsBy by_history (HasFailed before after) at (Some input) had has result h) T'
   -- the input changed a table
   pub tables : (T T' : Tables) → (¬ (T' ≡ T))
       → ¬ ExchangeIsAnswered by_tables (exchange_of at (Some input) had has faults) T T'
@@ -158,7 +161,8 @@ pub record RefutesHeadless (at : ℕ) (input : Bytes) (had has : Option Bytes)
       → ¬ ExchangeIsAnswered by_tables (exchange_of at (Some input) had has faults) T T'
   -- the tables do not stand for the one history
   pub history : (h : History) (T' : Tables) → (¬ StandsFor T' h)
-      → ¬ OneHistory h (exchange_of at (Some input) had has faults) T'
+      → ¬ StandsAfter by_history
+      (ExchangeIsAnswered by_history (exchange_of at (Some input) had has faults) h) T'
   -- its whole reply shows no failure
   pub whole : (T : Tables) → ¬ SentBytesShowFailure (IsFaultless by_tables at (Some input) T)
       (Some []) (Some (bad_head_text input))

@@ -53,7 +53,7 @@ FindsOnly image Are = (found : Tables) → Holds image found → ∥ Are found �
 -- run finds no others
 pub record HoldsCurrent (image : Image) (T : Tables) : Type 0 where
   pub db : Database
-  pub current : IsCurrent db T
+  pub current : IsCurrent 2 db T
   pub held : HoldsAlone image db.trees
   pub next : (found : Tables) → Holds image found → found ≡ T
 
@@ -78,7 +78,7 @@ pub record Ran {D : Type 0} (g : Ghosts D) (Does : Tables → Tables → Type 0)
 -- current index counts as any tables at all.
 abbrev pub CrashLeavesOnlyTables : (Trees → Type 0) → (Tables → Type 0) → Type 0
 CrashLeavesOnlyTables may_leave Are =
-    (db : Trees) → may_leave db → (T : Tables) → (AreCurrent db → T ≡ tables_in db) → Are T
+    (db : Trees) → may_leave db → (T : Tables) → (AreCurrent 2 db → T ≡ tables_in db) → Are T
 
 -- the files held a database, no table of which has the name of one of an index
 pub record HoldsNone (image : Image) : Type 0 where
@@ -187,7 +187,7 @@ pub record Worked
   pub after : Tables
   pub found : IsFound was before
   pub did : Does before after
-  pub committed : IsCommitted now after
+  pub committed : IsCommitted 2 now after
 
 -- an index was found in a database, the work on it reported what `Told` says, and a crash leaves
 -- what `Left` says
@@ -213,7 +213,7 @@ pub record IsMadeNew (T : Tables) (was now : State) : Type 0 where
   pub free : has_any_of was.now.schema index_schema.tables ≡ false
   pub was_working : IsWorking now → IsWorking was
   pub was_clean : HasCleanDisk now → HasCleanDisk was
-  pub committed : IsWorking now → IsCommitted now T
+  pub committed : IsWorking now → IsCommitted 2 now T
   pub left : HasCleanDisk now → IsTrue was.is_open
       → CrashLeavesOnlyTables now.may_leave (λ found. found ≡ T)
 

@@ -13,9 +13,9 @@ use Rattle.index_cli.specs.Serving.{ServesByHistory, Serves}
 use Rattle.index_cli.specs.Telling.{TextAnswersLines}
 use Rattle.index_cli.specs.LineCalls.{LineCallsLeave}
 use Rattle.index_cli.specs.LineFronts.{TextAnswersFront}
-use Rattle.index_cli.specs.LineHistories.{HistoryAnswersLines}
+use Rattle.index_desk.specs.ByRules.{StandsAfter}
 use Rattle.index_desk.specs.Checks.{wrong_charges_in}
-use Rattle.index_desk.specs.Crashes.{CallsLeaveHistory, CallsLeaveTables}
+use Rattle.index_desk.specs.Crashes.{CallsLeave}
 use Rattle.index_desk.specs.declared.desk.report.ReportFault.{ReportFault}
 use Rattle.index_desk.specs.Reports.{Reports, report_in}
 use Rattle.index_desk.specs.Rules.{by_history, by_tables}
@@ -41,7 +41,8 @@ pub record AnswersLines
   -- the answers are what each legal history of the tables says, and the new tables stand for it
   -- with the accepted calls
   pub history : (h : History) → IsLegal h → StandsFor T h
-      → LinesEnd (HistoryAnswersLines h) T' given left had has ended
+      → LinesEnd (λ lines text.
+      StandsAfter by_history (TextAnswersLines by_history h lines text)) T' given left had has ended
 
 -- the answers to the lines of an input, also if a fault has shut the store: to all lines, or to
 -- those up to a fault, after which no call was accepted
@@ -49,9 +50,11 @@ pub record AnswersFirstLines
     (given left had has : Option (List ℕ)) (T : Tables) (result : Result ℕ End) : Type 0 where
   pub ended : Result ℕ LineEnd
   pub is : result ≡ end_of ended
-  pub tables : LinesEnd (TextAnswersFront by_tables T) T given left had has ended
+  pub tables : LinesEnd (λ lines text U. TextAnswersFront by_tables T lines text) T
+      given left had has ended
   pub history : (h : History) → IsLegal h → StandsFor T h
-      → LinesEnd (TextAnswersFront by_history h) T given left had has ended
+      → LinesEnd (λ lines text U. TextAnswersFront by_history h lines text) T
+      given left had has ended
 
 -- the answered lines may leave these tables: those after the accepted calls, or after these and one
 -- call that was answered with a fault after the last of them
@@ -59,9 +62,9 @@ pub record LeavesLines
     (given left had has : Option (List ℕ)) (T T' : Tables) (result : Result ℕ End) : Type 0 where
   pub ended : Result ℕ LineEnd
   pub is : result ≡ end_of ended
-  pub tables : LinesEnd (LineCallsLeave (CallsLeaveTables T)) T' given left had has ended
+  pub tables : LinesEnd (LineCallsLeave (CallsLeave by_tables T)) T' given left had has ended
   pub history : (h : History) → IsLegal h → StandsFor T h
-      → LinesEnd (LineCallsLeave (CallsLeaveHistory h)) T' given left had has ended
+      → LinesEnd (LineCallsLeave (CallsLeave by_history h)) T' given left had has ended
 
 -- the report or a first part of it was written, and no table changed
 pub record WritesReport
@@ -128,10 +131,10 @@ pub record LeavesConnections
     (Are : List Exchange → Type 0) (at : Option ℕ) (requests : ℕ) (T T' : Tables)
     (result : Result ℕ End) : Type 0 where
   pub tables : (count : ℕ) × IsUpTo requests result count
-      × ServesFirst (LeavingTables Are (CallsLeaveTables T) T') by_tables at count T
+      × ServesFirst (LeavingTables Are (CallsLeave by_tables T) T') by_tables at count T
   pub history : (h : History) → IsLegal h → StandsFor T h
       → (count : ℕ) × IsUpTo requests result count
-      × ServesFirst (LeavingTables Are (CallsLeaveHistory h) T') by_history at count h
+      × ServesFirst (LeavingTables Are (CallsLeave by_history h) T') by_history at count h
 
 -- the exchanges are the first of the connections to come, and their replies and faults are those
 -- meanwhile, by what is known before and after

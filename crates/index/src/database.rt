@@ -32,7 +32,8 @@ use crate::failed_opening::FailedOpening;
 use crate::objects::other_object;
 use crate::opening::{first_token_digest, open, open_existing};
 use index_cache::Cache;
-use index_desk::{CachesAnswers, Desk};
+use index_caching::CachesAnswers;
+use index_desk::Desk;
 use index_digest::Digest256;
 use index_rules::OpenFault;
 use index_sql_opening::{is_blank, is_first_version, is_ours};
@@ -81,6 +82,9 @@ pub trait Work {
     /// The task of the work, from the work before and after.
     ghost task: { Self → Self → Task };
 
+    /// What is known of why it ended, from the work before and after.
+    ghost IsCaused: { Self → Self → Result ℕ EndData → Type 0 };
+
     /// The size of the books' cache, in bytes.
     fn keep_recent(&self) -> usize;
 
@@ -93,6 +97,8 @@ pub trait Work {
             (TaskMayLeave (task self.old self.new) result) }
         ensures honest { B.IsHonest desk.new → B.IsHonest desk.old }
         ensures clean { B.IsClean desk.new → B.IsClean desk.old }
+        // An early end is told only for its cause in this work.
+        ensures caused { IsCaused self.old self.new result }
         // A failed store is never reported as out of memory.
         ensures stores { result ≡ Err End.OutOfMemory → B.stores desk.new ≡ B.stores desk.old };
 }
@@ -167,6 +173,9 @@ pub fn work_on<S: Start, W: Work>(
     ensures leads { WorkLeadsOn ⟦<FileFrom<S> as Disk>⟧ (W.task work.old work.new)
         (image_at S.Start) result }
 
+    // The work ended early only for its cause.
+    ensures caused { IfOk result (λ run. W.IsCaused work.old work.new run.end) }
+
     // If nothing was done on the files, the work is unchanged.
     ensures idle { OnErr result (work.new ≡ work.old) }
 {
@@ -225,6 +234,7 @@ fn work_and_close<D: Disk + Drop, W: Work>(
     requires outside { conn.in_transaction ≡ false }
     ensures ends { (start : Image) → IsOpenedOn start conn → RunEndsOnFiles D.Disk
         (W.task work.old work.new) start result }
+    ensures caused { IfOk result (λ run. W.IsCaused work.old work.new run.end) }
     ensures idle { OnErr result (work.new ≡ work.old) }
 {
     match work_in(rt, conn, work) {
@@ -266,7 +276,7 @@ fn create_in<S: Alter + Drop>(
     ensures made { IfOk result (λ made.
         IsMadeNew (first_tables user.now token) (state S.Store conn) (state S.Store made)) }
     ensures refused { IfErr result (λ it. HasCleanDisk (state S.Store it.conn) → CrashLeavesDatabase
-        (IsCreated (first_tables user.now token)) (state S.Store conn) (state S.Store it.conn)) }
+        (IsCreated 2 (first_tables user.now token)) (state S.Store conn) (state S.Store it.conn)) }
     ensures why { IfErr result (λ it. IsWhyUnmade user.now token S.Store conn it.conn it.why) }
 {
     match SqlBooks::create(rt.alloc(), conn, user.as_bytes(), token) {
@@ -285,6 +295,7 @@ fn work_in<S: Alter + Drop, W: Work>(
     ensures worked { let task = W.task work.old work.new in IfOk result (λ done.
         WorkEndsOnConnection (Does task done.1) (TaskTells task done.1) (TaskMayLeave task done.1)
         (state S.Store conn) (state S.Store done.0)) }
+    ensures caused { IfOk result (λ done. W.IsCaused work.old work.new done.1) }
     ensures refused { IfErr result (λ left. HasCleanDisk (state S.Store left.conn)
         → CrashLeavesDatabase IsRaised (state S.Store conn) (state S.Store left.conn)) }
     ensures why { IfErr result (λ left. IsWhyUnfound S.Store conn left.conn left.why) }

@@ -20,8 +20,9 @@ use crate::end::End;
 use crate::serving::serving_by;
 use index_args::ServeArgs;
 use index_cache::Cache;
+use index_caching::CachesAnswers;
 use index_cli::apply_lines;
-use index_desk::{CachesAnswers, Desk};
+use index_desk::Desk;
 use index_digest::Digest256;
 use index_io::{Input, Sink, Source, write_bytes};
 use index_message::Site;
@@ -203,11 +204,18 @@ struct Lines<R, K> {
 }
 
 impl<R: Source, K: Sink> Work for Lines<R, K> {
+    ghost use Rattle.index_cli.specs.declared.apply.TheConstants.{MOST_BYTES};
+    ghost use Rattle.index_http.specs.Steps.{to_sink};
+    ghost use Rattle.index_message.specs.Reads.{from_source};
+    ghost use Rattle.index.specs.Ends.{LinesAreCaused};
     ghost use Rattle.index.specs.Tasks.{AnswerLines};
 
     ghost task = { λ old new. AnswerLines
         (R.remaining old.source) (R.remaining new.source)
         (K.contents old.sink) (K.contents new.sink) };
+
+    ghost IsCaused = { λ old new. LinesAreCaused MOST_BYTES
+        (from_source R.Source old.source new.source) (to_sink K.Sink old.sink new.sink) };
 
     fn keep_recent(&self) -> usize {
         0
@@ -264,14 +272,19 @@ struct Reporting<K> {
 }
 
 impl<K: Sink> Work for Reporting<K> {
+    ghost use Rattle.index_http.specs.Steps.{to_sink};
+    ghost use Rattle.index.specs.Ends.{ReportIsCaused};
     ghost use Rattle.index.specs.Tasks.{WriteReport};
 
     ghost task = { λ old new. WriteReport (K.contents old.sink) (K.contents new.sink) };
+
+    ghost IsCaused = { λ old new. ReportIsCaused (to_sink K.Sink old.sink new.sink) };
 
     fn keep_recent(&self) -> usize {
         0
     }
 
+    #[tactic(auto, using(crate::proofs::CausedLemmas::report_is_caused))]
     fn run<B: CachesAnswers>(&mut self, rt: &HostRuntime, desk: &mut Desk<B>) -> Result<u64, End> {
         desk.report(rt.alloc(), &mut self.sink)?;
         Ok(0)
@@ -301,9 +314,12 @@ pub fn check<S: Start, K: Sink>(
 struct Checking;
 
 impl Work for Checking {
+    ghost use Rattle.std.specs.Prelude.{⊤};
     ghost use Rattle.index.specs.Tasks.{CountWrong};
 
     ghost task = { λ _ _. CountWrong };
+
+    ghost IsCaused = { λ _ _ _. ⊤ };
 
     fn keep_recent(&self) -> usize {
         0

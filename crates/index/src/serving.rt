@@ -8,8 +8,9 @@ use crate::cause::{Cause, cause_of_bind};
 use crate::database::Work;
 use crate::end::End;
 use index_args::ServeArgs;
+use index_caching::CachesAnswers;
 use index_cli::{Connections, Listening, answer_connections};
-use index_desk::{CachesAnswers, Desk};
+use index_desk::Desk;
 use index_message::Site;
 use std::io;
 use std::net::{SocketAddr, TcpListener};
@@ -27,6 +28,7 @@ pub fn serving_by<'a>(site: &'a Site, args: ServeArgs<'a>) -> Serving<'a, Addres
         site,
         from: Address {
             address: args.listen,
+            has_failed: false,
         },
         requests: all_rounds(args.requests, args.rounds),
         at: args.at,
@@ -60,6 +62,9 @@ pub trait Listens {
     /// What was sent and what failed on the connections that were closed, in order, if that is known.
     ghost replies: { Self → KnownReplies };
 
+    /// Whether the next connection could not be accepted.
+    ghost CannotAccept: { Self → Type 0 };
+
     /// Listens, and prints the address.
     ///
     /// `Listen` if it can't listen, and `WriteFault` if the address could not be printed.
@@ -73,7 +78,8 @@ pub trait Listens {
     /// Stops listening, with these connections left.
     fn end(&mut self, left: Self::Coming)
         ensures coming { coming self.new ≡ Self.Coming.coming left }
-        ensures replies { replies self.new ≡ Self.Coming.replies left };
+        ensures replies { replies self.new ≡ Self.Coming.replies left }
+        ensures refused { Self.Coming.CannotAccept left → CannotAccept self.new };
 }
 
 /// The work of `serve`: this many connections are answered.
@@ -87,10 +93,13 @@ pub struct Serving<'a, L> {
 }
 
 impl<L: Listens> Work for Serving<'_, L> {
+    ghost use Rattle.index.specs.Ends.{ServingIsCaused};
     ghost use Rattle.index.specs.Tasks.{AnswerConnections};
 
     ghost task = { λ old new. AnswerConnections old.at old.requests
         (L.coming old.from) (L.coming new.from) (L.replies old.from) (L.replies new.from) };
+
+    ghost IsCaused = { λ _ new. ServingIsCaused (L.CannotAccept new.from) };
 
     fn keep_recent(&self) -> usize
         ensures { result ≡ self.now.keep_recent }
@@ -116,9 +125,12 @@ impl<L: Listens> Work for Serving<'_, L> {
 #[derive(Clone, Copy)]
 pub struct Address<'a> {
     address: &'a str,
+    /// Whether the next connection could not be accepted. Only clauses read it.
+    has_failed: bool,
 }
 
 impl Listens for Address<'_> {
+    ghost use Rattle.std.specs.Prelude.{◌≡◌, true};
     ghost use Rattle.index_cli.specs.Connections.{unknown, unknown_replies};
 
     type Coming = Listening;
@@ -126,6 +138,8 @@ impl Listens for Address<'_> {
     ghost coming = { λ _. unknown };
 
     ghost replies = { λ _. unknown_replies };
+
+    ghost CannotAccept = { λ it. it.has_failed ≡ true };
 
     fn listen(&mut self, rt: &HostRuntime) -> Result<Listening, End> {
         let listener = match listen_at(rt, self.address) {
@@ -139,6 +153,7 @@ impl Listens for Address<'_> {
     }
 
     fn end(&mut self, left: Listening) {
+        self.has_failed = left.has_failed();
         drop(left);
     }
 }

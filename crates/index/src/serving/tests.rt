@@ -76,7 +76,7 @@ impl<R: Abort> Connections for Clients<'_, R> {
 }
 
 impl<'a, R: Abort> Listens for Clients<'a, R> {
-    ghost use Rattle.std.specs.Prelude.{map, Some};
+    ghost use Rattle.std.specs.Prelude.{◌≡◌, [], map, Some};
     ghost use Rattle.index_cli.specs.InMemory.{sent_on};
 
     type Coming = Clients<'a, R>;
@@ -84,6 +84,8 @@ impl<'a, R: Abort> Listens for Clients<'a, R> {
     ghost coming = { λ clients. Some (map (λ message. message.now) (iter_rest clients.coming)) };
 
     ghost replies = { λ clients. Some (map sent_on clients.closed.items) };
+
+    ghost CannotAccept = { λ clients. iter_rest clients.coming ≡ [] };
 
     fn listen(&mut self, rt: &HostRuntime) -> Result<Clients<'a, R>, End> {
         let none = Clients {

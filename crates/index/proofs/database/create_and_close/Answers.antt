@@ -46,7 +46,7 @@ returns-in-Err-clause-refused g c = λ start first.
       subst (λ held. IsUnmade T start (file_state held)) (sym again.same) (λ clean.
           let leaves = c.in-Err.ensures.refused clean in
           let opening = first leaves.was_clean in
-          refused_by (IsCreated T) start c.args.conn c.in-Err.left.conn opening.0 opening.1 leaves),
+          refused_by (IsCreated 2 T) start c.args.conn c.in-Err.left.conn opening.0 opening.1 leaves),
       (λ clean. (again.numbered clean, again.databases clean)),
     )
 
