@@ -1,6 +1,7 @@
 //! Stories: requests to a desk and its answers. Each is run by a desk over tables in memory and by one over a database.
 use index_cache::Cache;
-use index_desk::{CachesAnswers, Desk};
+use index_caching::CachesAnswers;
+use index_desk::Desk;
 use index_digest::Digest256;
 use index_plain::PlainBooks;
 use index_tables::{SqlBooks, Unopened};

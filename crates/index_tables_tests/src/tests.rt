@@ -13,6 +13,7 @@ use std::process::Abort;
 mod looks;
 mod migrations;
 mod opening;
+mod placed;
 mod rows;
 mod runs;
 mod stops;

@@ -2,8 +2,9 @@
 use super::fakes::{BooksCall, FailingBooks};
 use super::{desk_with_users, new_books};
 use index_cache::Cache;
+use index_caching::CachesAnswers;
 use index_cli::{Listening, ServeEnd, answer_connections};
-use index_desk::{CachesAnswers, Desk};
+use index_desk::Desk;
 use index_message::Site;
 use index_rules::{Books, Fault};
 use std::alloc::AllocGlobal;

@@ -6,7 +6,8 @@ use super::{
     new_books,
 };
 use index_cache::Cache;
-use index_desk::{CachesAnswers, Desk};
+use index_caching::CachesAnswers;
+use index_desk::Desk;
 use index_http::{IoEnd, answer_one};
 use index_io::{Input, Output};
 use index_message::Site;

@@ -1,6 +1,7 @@
 //! Exchanges: a message and the whole reply to it, byte for byte.
 use super::{Story, assert_story};
-use index_desk::{CachesAnswers, Desk};
+use index_caching::CachesAnswers;
+use index_desk::Desk;
 use index_http::{IoEnd, answer_one};
 use index_io::{Input, Output};
 use index_message::Site;

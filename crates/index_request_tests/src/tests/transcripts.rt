@@ -1,8 +1,9 @@
 //! Transcripts: constant texts that have each request as a line of JSON, and below it `= ` and its answer, byte for
 //! byte. A line that begins with `#` says why. An empty line says nothing. `<abc>` is short for the digest of `abc`.
 use super::{Story, assert_story};
+use index_caching::CachesAnswers;
 use index_cli::apply_lines;
-use index_desk::{CachesAnswers, Desk};
+use index_desk::Desk;
 use index_io::{Input, Output};
 use index_rules::Books;
 use std::alloc::{AllocError, AllocGlobal};

@@ -1,8 +1,8 @@
 //! The calls of a desk.
 use super::requests::{add_user, call_by, claim, upload};
 use super::{OF_ABC, file_name, name, new_books};
-use index_desk::{Desk, Standing};
-use index_rules::{Answer, Books, Call, Keys, NameRecord, Refusal, Request};
+use index_desk::Desk;
+use index_rules::{Answer, Books, Call, Keys, NameRecord, Refusal, Request, Standing};
 use std::alloc::AllocGlobal;
 use std::process::Abort;
 

@@ -1,8 +1,7 @@
 //! The texts of answers and standings.
-use index_desk::Standing;
 use index_json::{answer_text, standing_text};
 use index_names::{NormalName, normal};
-use index_rules::{Answer, Fault, Refusal};
+use index_rules::{Answer, Fault, Refusal, Standing};
 use std::alloc::AllocGlobal;
 use std::process::Abort;
 

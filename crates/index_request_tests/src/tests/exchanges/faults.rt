@@ -5,7 +5,8 @@ use super::{
     new_site, tell,
 };
 use crate::tests::{Story, assert_story};
-use index_desk::{CachesAnswers, Desk};
+use index_caching::CachesAnswers;
+use index_desk::Desk;
 use index_http::IoEnd;
 use index_message::Site;
 use index_test_support::{ShortReader, ShortWriter, look};

@@ -4,7 +4,8 @@ use super::{
     assert_parts, new_site,
 };
 use crate::tests::{Story, assert_story};
-use index_desk::{CachesAnswers, Desk};
+use index_caching::CachesAnswers;
+use index_desk::Desk;
 use index_message::Site;
 use index_test_support::{look, reply};
 use std::alloc::AllocGlobal;

@@ -138,3 +138,24 @@ const REPEATED: &str = r#"
 fn a_repeated_attempt_is_a_second_one(rt: HostRuntime) {
     assert_transcript(&rt, &[USERS, FROB, CASE, REPEATED]);
 }
+
+/// Only the office records attempts and transfers a name, and only an owner answers a case.
+const BY_OTHERS: &str = r#"
+{"at":40000000,"token":"hello","do":"record_attempt","name":"frob","means":"profile","sent":true}
+= {"answer":"refused","code":3,"name":"NotOffice"}
+{"at":90000000,"token":"hello","do":"transfer","name":"frob","quiet":true}
+= {"answer":"refused","code":3,"name":"NotOffice"}
+{"at":90000000,"token":"abc","do":"transfer","name":"frob","quiet":true}
+= {"answer":"refused","code":3,"name":"NotOffice"}
+{"at":90000000,"token":"hello","do":"answer_case","name":"frob"}
+= {"answer":"refused","code":18,"name":"NotOwner"}
+{"at":90000000,"token":"office","do":"answer_case","name":"frob"}
+= {"answer":"refused","code":18,"name":"NotOwner"}
+{"do":"standing","name":"frob"}
+= {"case":{"attempts":0,"author":false,"candidate":"bob","contact":"mail","first":null,"kind":"continue","opened":39999999,"pages":false,"profile":false,"sent":0,"why":"used","work":"fork"},"charge":3,"name":"frob","owners":["ann"],"quota":1073741824,"shown":"frob","state":"held"}
+"#;
+
+#[test]
+fn nobody_else_moves_a_case_on(rt: HostRuntime) {
+    assert_transcript(&rt, &[USERS, FROB, CASE, BY_OTHERS]);
+}

@@ -63,3 +63,24 @@ const BYTE_ORDER: &str = r#"
 fn owners_stand_in_byte_order(rt: HostRuntime) {
     assert_transcript(&rt, &[USERS, FROB, BYTE_ORDER]);
 }
+
+/// The two requests that are not already so when their caller repeats them: he has lost the right to ask.
+const GIVEN_UP: &str = r#"
+{"at":10,"token":"abc","do":"add_owner","name":"frob","user":"bob"}
+= {"answer":"accepted"}
+{"at":11,"token":"abc","do":"remove_owner","name":"frob","user":"ann"}
+= {"answer":"accepted"}
+{"at":12,"token":"abc","do":"remove_owner","name":"frob","user":"ann"}
+= {"answer":"refused","code":18,"name":"NotOwner"}
+{"at":13,"token":"office","do":"set_token","user":"office","token_sha256":"<a>"}
+= {"answer":"accepted"}
+{"at":14,"token":"office","do":"set_token","user":"office","token_sha256":"<a>"}
+= {"answer":"refused","code":2,"name":"BadToken"}
+{"at":15,"token":"a","do":"set_token","user":"office","token_sha256":"<a>"}
+= {"answer":"already"}
+"#;
+
+#[test]
+fn a_right_that_was_given_up_is_not_there_to_repeat_it(rt: HostRuntime) {
+    assert_transcript(&rt, &[USERS, FROB, GIVEN_UP]);
+}
