@@ -1,0 +1,1 @@
+"""Projects that move: from a folder or another index to this one, and from this one into a folder."""
