@@ -192,6 +192,11 @@ def page_of(url: str, found: Overview, cases: Sequence[CaseRow], now: int) -> It
         yield from parts.get(part, ())
 
 
+def open_itself(path: str, flags: int) -> int:
+    """Opens a file that is not a link: who else may write this folder may have made one, to a file of yours."""
+    return os.open(path, flags | getattr(os, "O_NOFOLLOW", 0), 0o666)
+
+
 def put_whole(path: str, pieces: Iterable[str], is_synced: bool = True) -> None:
     """Writes a file as a whole or not at all: beside it first, and then in its place. Who else may write this folder
     may have put a link beside it: nothing is written through that."""

@@ -5,12 +5,16 @@ import dataclasses
 import json
 import os
 from contextlib import contextmanager, suppress
-from typing import Dict, Iterable, Iterator, Sequence
+from typing import Container, Dict, Iterable, Iterator, Optional, Sequence
 
 from indexctl.ends import WRONG, Stop
-from indexctl.page import part_of_page, put_whole
+from indexctl.page import open_itself, part_of_page, put_whole
 from indexctl.site.about import About, about_from
-from indexctl.site.pages import list_page, project_page
+from indexctl.site.descriptions import Descriptions
+from indexctl.site.feed import feed_of
+from indexctl.site.log import Log
+from indexctl.site.needs import Around, json_of, needed_by
+from indexctl.site.pages import list_page, missing_page, project_page
 from indexctl.site.projects import Project
 from indexctl.transport import object_of
 
@@ -20,18 +24,13 @@ except ImportError:
     # Windows: there two runs at once are left to you
     fcntl = None  # type: ignore[assignment]
 
-# what wheels said, by their digests; also the mark of a folder that may be written
+# what files said, by their digests; also the mark of a folder that may be written
 KEPT, PROJECTS = ".wheels.json", "projects"
-
-
-def open_itself(path: str, flags: int) -> int:
-    """Opens a file that is not a link: who else may write this folder may have made one, to a file of yours."""
-    return os.open(path, flags | getattr(os, "O_NOFOLLOW", 0), 0o666)
 
 
 @contextmanager
 def kept_in(folder: str) -> Iterator[Dict[str, About]]:
-    """What wheels said in the run before. A second run of the same folder waits for the first."""
+    """What files said in the run before. A second run of the same folder waits for the first."""
     path = os.path.join(folder, KEPT)
     if os.listdir(folder) and not os.path.exists(path):
         raise Stop(WRONG, f"{folder} has files of something else. Name an empty folder, or that of the pages.")
@@ -57,7 +56,8 @@ def put_changed(path: str, text: str) -> bool:
     return True
 
 
-def put_pages(folder: str, url: str, projects: Sequence[Project]) -> int:
+def put_pages(folder: str, url: str, projects: Sequence[Project], descriptions: Descriptions,
+              log: Optional[Log]) -> int:
     """Writes all pages, and gives how many changed. The list comes after the pages to which it leads, and before those
     go to which it leads no more. So each link leads somewhere, wherever a run ends."""
     inner = os.path.join(folder, PROJECTS)
@@ -65,12 +65,28 @@ def put_pages(folder: str, url: str, projects: Sequence[Project]) -> int:
         raise Stop(WRONG, f"{inner} is a link: pages of another folder would be removed. Put a folder there.")
     os.makedirs(inner, exist_ok=True)
     own = {f"{it.standing.name}.html": it for it in projects}
+    around = Around(needed_by(projects), log.uploaded if log else {}, log is not None)
     changed = [put_changed(os.path.join(folder, name), text) for name, text in (
+        ("404.html", missing_page(url)),
         ("style.css", part_of_page("page.css") + part_of_page("site/site.css")),
-        ("site.js", part_of_page("site/site.js")))]
-    changed += [put_changed(os.path.join(inner, name), project_page(url, it)) for name, it in own.items()]
-    changed.append(put_changed(os.path.join(folder, "index.html"), list_page(url, projects)))
+        *((name, part_of_page(f"site/{name}")) for name in ("site.js", "icon.svg")))]
+    for name, it in own.items():
+        description = descriptions.html(it.digest, it.about.described)
+        changed.append(put_changed(os.path.join(inner, name), project_page(url, it, description, around)))
+    changed.append(put_changed(os.path.join(folder, "projects.json"), "".join(json_of(url, projects, around))))
+    changed.append(put_feed(os.path.join(folder, "feed.xml"), url, around.users, log))
+    changed.append(put_changed(os.path.join(folder, "index.html"), list_page(url, projects, around)))
     return sum(changed) + remove_others(inner, own)
+
+
+def put_feed(path: str, url: str, held: Container[str], log: Optional[Log]) -> bool:
+    """Writes the feed, or removes that of a run before if this one has no log."""
+    if log:
+        return put_changed(path, "".join(feed_of(url, log, held)))
+    is_there = os.path.exists(path)
+    if is_there:
+        os.remove(path)
+    return is_there
 
 
 def remove_others(inner: str, kept: Iterable[str]) -> int:
