@@ -19,9 +19,9 @@ HERE = Path(__file__).resolve().parent
 TIME = (1980, 1, 1, 0, 0, 0)
 SHARED = HERE.parent / "server/lib/package_index"
 MAIN = "import sys\n\nfrom indexctl.main import main\n\nsys.exit(main())\n"
-TAKEN = ("__init__.py", "hints.py", "names.py")
+TAKEN = ("__init__.py", "changes.py", "hints.py", "log_place.py", "names.py")
 LEFT_OUT = ("__main__.py", "build.py")
-SUFFIXES = (".py", ".html", ".css", ".js")
+SUFFIXES = (".py", ".html", ".css", ".js", ".svg")
 
 
 def files_of(folder: Path, package: str) -> Iterator[Tuple[str, bytes]]:

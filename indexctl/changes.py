@@ -3,6 +3,8 @@ from __future__ import annotations
 
 import argparse
 import json
+import secrets
+import threading
 from contextlib import AbstractContextManager, nullcontext
 from dataclasses import replace
 from types import MappingProxyType
@@ -13,7 +15,7 @@ from indexctl.names import project_of, sha256
 from indexctl.record import Record
 from indexctl.refusals import hint_of
 from indexctl.settings import find_setting
-from indexctl.terminal import note, say
+from indexctl.terminal import note, say_row
 from indexctl.transport import Headers, Index, Request, foreign, object_of
 from indexctl.units import moment_now
 from package_index.names import file_path, normal
@@ -37,8 +39,10 @@ class Desk:
     def __init__(self, args: argparse.Namespace) -> None:
         self.setting = find_setting(args.profile)
         self.index = Index(self.setting, args.again)
+        self.is_json = bool(args.json)
         self.refused = 0
         self.record: Optional[Record] = None
+        self.threads = threading.Lock()
 
     def token(self) -> str:
         if not self.setting.token:
@@ -50,7 +54,8 @@ class Desk:
         """The room in the record for a line. A listing needs no record, nor does a request that can't be accepted."""
         if not is_kept or not self.setting.record:
             return nullcontext(lambda: None)
-        self.record = self.record or Record(self.setting.record)
+        with self.threads:
+            self.record = self.record or Record(self.setting.record)
         return self.record.room(line)
 
     def send(self, what: str, row: Row, request: Request, token: Optional[str] = None, is_kept: bool = True,
@@ -90,21 +95,31 @@ class Desk:
         request = Request("POST", "/requests", (), lambda: [body], len(body))
         return self.send(what, row, request, token, is_kept, more)
 
-    def tell(self, what: str, row: Row, status: int, answer: str) -> bool:
-        """Says what became of a change, and whether it is so now."""
+    def say(self, text: str, row: Optional[Row] = None) -> None:
+        """Prints what was done: the text, or with --json the row."""
+        say_row(self.is_json, text, row)
+
+    def tell(self, what: str, row: Row, status: int, answer: str, shown: Row = NOTHING_MORE) -> bool:
+        """Says what became of a change, and whether it is so now. With --json it is a row: what was asked for, the
+        answer, what to do about a refusal, and of what is so now that which is to be shown."""
+        told: Row = {**row, "status": status, "answer": answer}
         if status in (200, 201):
-            say(f"{what}: {answer}" + (", nothing changed" if answer == "already" else ""))
+            self.say(f"{what}: {answer}" + (", nothing changed" if answer == "already" else ""), {**told, **shown})
             return True
-        sentence = f"{what}: {status} {answer}. {hint_of(self.index, answer, row)}".rstrip()
+        advice = hint_of(self.index, answer, row)
+        sentence = f"{what}: {status} {answer}. {advice}".rstrip()
+        if self.is_json:
+            self.say(sentence, {**told, "hint": advice})
         if status == 401:
             raise Stop(REFUSED, sentence)
         self.refused += 1
         note(sentence, "red")
         return False
 
-    def change(self, what: str, row: Row, token: Optional[str] = None, more: Row = NOTHING_MORE) -> bool:
+    def change(self, what: str, row: Row, token: Optional[str] = None, more: Row = NOTHING_MORE,
+               shown: Row = NOTHING_MORE) -> bool:
         """Asks for a change by JSON, and says what became of it. Gives whether it is so now."""
-        return self.tell(what, row, *self.post(what, row, token, more=more))
+        return self.tell(what, row, *self.post(what, row, token, more=more), shown)
 
     def delete(self, file: str, more: Row = NOTHING_MORE) -> bool:
         row, what = {"do": "delete", "file": file}, f"delete {file}"
@@ -130,6 +145,12 @@ class Desk:
         """Whether the token is of this user. It asks to give the user this token, which somebody has already."""
         row = {"do": "set_token", "user": user, "token_sha256": sha256(self.token())}
         return self.post(f"user {user}", row, is_kept=False)[1] == "already"
+
+    def is_owner(self, name: str) -> bool:
+        """Whether the token's user owns a held name. It asks to unyank a release that nobody has, so that nothing can
+        change."""
+        row = {"do": "unyank", "name": name, "release": secrets.token_hex(16)}
+        return self.post(name, row, is_kept=False)[1] == "NoRelease"
 
     def caller(self) -> str:
         """Whether the token is of the office, of another user, or of nobody; unknown if the address leads to several

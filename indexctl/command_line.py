@@ -12,6 +12,17 @@ from indexctl.about import ABOUT, AGAIN, ENVIRONMENT, FILES, STATUSES, VERSION
 from indexctl.near import MOST_SHOWN, is_near
 
 Run = Callable[[argparse.Namespace], Optional[int]]
+# single words that people know from elsewhere, each with the command that it is
+ALIASES = {"info": "status", "whoami": "token check"}
+# and those that are none, with what was meant, by people who used another tool
+MEANT = {"list": "`indexctl names`, `indexctl files` or `indexctl releases`", "show": "`indexctl status`",
+         "login": "`indexctl profile --help`, which says where your token stands", "publish": "`indexctl upload`",
+         "download": "`python3 -m pip download`", "install": "`python3 -m pip install`"}
+# options of twine, with what stands in their place
+OF_TWINE = {"--skip-existing": "A file that is there with the same bytes is no error: leave it out.",
+            "--repository": "`--profile NAME` names another index.", "-r": "`--profile NAME` names another index.",
+            "--repository-url": "INDEX_URL names the index.", "-u": "There is no user name, but a token.",
+            "-p": "The token stands in INDEX_TOKEN, or in the file that the profile names."}
 # of a line of help, however wide the terminal is
 LEAST_COLUMNS, MOST_COLUMNS = 20, 118
 
@@ -61,13 +72,25 @@ def meant(noun: str, word: str) -> List[str]:
 
 
 class Parser(argparse.ArgumentParser):
-    """A parser that says which command was perhaps meant by one that is none."""
+    """A parser that says which command was perhaps meant by one that is none. What a command does not know is told by
+    its own usage."""
 
     def error(self, message: str) -> NoReturn:
         found = re.search("(?:COMMAND|VERB): invalid choice: '([^']*)'", message)
-        near = meant(" ".join(self.prog.split()[1:]), found[1]) if found else []
-        asked = f" Did you mean {' or '.join(f'`indexctl {it}`' for it in near)}?" if near else ""
-        super().error(f"{message}{asked}")
+        noun = " ".join(self.prog.split()[1:])
+        near = " or ".join(f"`indexctl {it}`" for it in meant(noun, found[1])) if found else ""
+        near = MEANT.get(found[1], near) if found and not noun else near
+        super().error(f"{message} Did you mean {near}?" if near else message)
+
+    def parse_args(self, args: Any = None, namespace: Any = None) -> Any:
+        found, rest = self.parse_known_args(args, namespace)
+        if found.plural and not any(it.startswith("-") for it in rest):
+            # argparse takes such words only up to an option: `release yank frob --reason x 1.0`
+            getattr(found, found.plural).extend(rest)
+        elif rest:
+            hints = [OF_TWINE[it] for it in (word.partition("=")[0] for word in rest) if it in OF_TWINE]
+            found.parser.error(f"unrecognized arguments: {' '.join(rest)}" + (f". {' '.join(hints)}" if hints else ""))
+        return found
 
 
 def add_common(parser: argparse.ArgumentParser, profile: Any, again: Any) -> None:
@@ -109,17 +132,17 @@ def epilog() -> str:
     return "\n\n".join(f"{title}:\n" + "\n".join(entry(*it) for it in pairs) for title, pairs in parts)
 
 
-def parsers(commands: Sequence[Command]) -> Tuple[argparse.ArgumentParser, Dict[str, argparse.ArgumentParser]]:
+def parsers(commands: Sequence[Command]) -> Tuple[Parser, Dict[str, Parser]]:
     """The parser of the whole command line, and that of each command by its path."""
     plain = argparse.RawDescriptionHelpFormatter
     top = Parser(prog="indexctl", description=wrapped(ABOUT), epilog=epilog(), formatter_class=plain)
     top.add_argument("--version", action="version", version=f"indexctl {VERSION}")
     add_common(top, None, 6)
-    top.set_defaults(yes=False, json=False)
+    top.set_defaults(yes=False, json=False, plural=None)
     common = Parser(add_help=False)
     add_common(common, argparse.SUPPRESS, argparse.SUPPRESS)
     nouns = {"": top.add_subparsers(metavar="COMMAND", dest="noun", required=True)}
-    made: Dict[str, argparse.ArgumentParser] = {}
+    made: Dict[str, Parser] = {}
     for it in commands:
         noun, _, verb = it.path.rpartition(" ")
         if noun not in nouns:
@@ -132,6 +155,13 @@ def parsers(commands: Sequence[Command]) -> Tuple[argparse.ArgumentParser, Dict[
                                         description=about)
         for given in it.arguments:
             parser.add_argument(*given.names, **given.settings)
-        parser.set_defaults(function=it.function)
+        places = [given for given in it.arguments if not given.is_option]
+        plural = places[-1].names[0] if places and places[-1].settings.get("nargs") in ("+", "*") else None
+        parser.set_defaults(function=it.function, parser=parser, plural=plural)
         made[it.path] = parser
+    for alias, path in ALIASES.items():
+        if path in made:
+            parser = nouns[""].add_parser(alias, help=f"is `{path}`", parents=[made[path]], add_help=False,
+                                          formatter_class=plain, description=made[path].description)
+            parser.set_defaults(parser=parser)
     return top, made

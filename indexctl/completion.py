@@ -8,7 +8,7 @@ from contextlib import suppress
 from dataclasses import dataclass
 from typing import Dict, List, Optional, Sequence
 
-from indexctl.command_line import COMMANDS, Command, argument, command
+from indexctl.command_line import ALIASES, COMMANDS, Command, argument, command
 from indexctl.contents import find_contents, releases_of
 from indexctl.ends import Stop
 from indexctl.settings import find_setting
@@ -53,11 +53,12 @@ PLAIN = re.compile("[A-Za-z0-9._+-]+")
 @dataclass(frozen=True)
 class Line:
     """What stands on a command line: the words that the command got so far, the one that is typed and what it names,
-    and the profile."""
+    the profile, and the words that may stand there too."""
     given: List[str]
     typed: str
     kind: str
     profile: Optional[str]
+    choices: Sequence[str] = ()
 
 
 def completed(it: Command) -> List[str]:
@@ -78,6 +79,11 @@ def script_of(commands: Sequence[Command]) -> str:
         after[noun].append(verb)
         after[it.path] = completed(it)
     asking = {it.path for it in commands if any(given.settings.get("metavar") in FINDERS for given in it.arguments)}
+    for alias, path in ALIASES.items():
+        if path in after:
+            after[""].append(alias)
+            after[alias] = after[path]
+            asking |= {alias} if path in asking else set()
     paths = "".join(f'            " {path}") ;;\n' for path in after if path)
     lines = "".join(f'        "{f" {path}" if path else ""}") words="{" ".join(words)}"'
                     f'{" asks=yes" if path in asking else ""} ;;\n' for path, words in after.items())
@@ -86,8 +92,9 @@ def script_of(commands: Sequence[Command]) -> str:
 
 def read_line(words: Sequence[str]) -> Optional[Line]:
     """What stands on a line of these words, or None if the index has nothing for the last of them."""
-    found = next((it for it in COMMANDS if it.path in (words[0], " ".join(words[:2]))), None)
-    size = len(found.path.split()) if found else 0
+    paths = (ALIASES.get(words[0], words[0]), " ".join(words[:2]))
+    found = next((it for it in COMMANDS if it.path in paths), None)
+    size = 1 if words[0] in ALIASES else len(found.path.split()) if found else 0
     if not found or len(words) <= size:
         return None
     with_value = WITH_VALUE | {name for it in found.arguments if "action" not in it.settings for name in it.names}
@@ -100,11 +107,15 @@ def read_line(words: Sequence[str]) -> Optional[Line]:
             option = word if word in with_value else ""
         else:
             given.append(word)
+    # from the first place of several words on, a word may be of that, and behind its first one of the next place too
     places = [it for it in found.arguments if not it.is_option]
-    at = min(len(given), len(places) - 1) if places and places[-1].settings.get("nargs") else len(given)
+    several = next((number for number, it in enumerate(places) if it.settings.get("nargs")), len(places))
+    at = min(len(given), several)
     if option or at >= len(places):
         return None
-    return Line(given, words[-1], places[at].settings.get("metavar", ""), profile)
+    behind = places[at + 1:at + 2] if len(given) > at else []
+    choices = [choice for it in behind for choice in it.settings.get("choices", ())]
+    return Line(given, words[-1], places[at].settings.get("metavar", ""), profile, choices)
 
 
 def known_names(index: Index) -> List[str]:
@@ -159,4 +170,5 @@ def completion(args: argparse.Namespace) -> None:
         return
     line = read_line(args.words)
     if line and line.kind in FINDERS:
-        put("".join(f"{it}\n" for it in found_in_time(line)), end="")
+        others = [it for it in line.choices if it.startswith(line.typed)]
+        put("".join(f"{it}\n" for it in (*found_in_time(line), *others)), end="")

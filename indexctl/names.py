@@ -14,6 +14,11 @@ def sha256(text: str) -> str:
     return hashlib.sha256(text.encode()).hexdigest()
 
 
+def file_named(text: str) -> str:
+    """The name of a file, of which the path on a disk or the address on an index may have been typed."""
+    return re.split(r"[/\\]", text)[-1]
+
+
 def project_of(file: str) -> str:
     """The project of a file name, in its normal form."""
     spelled = read_file_name(file)
@@ -47,3 +52,9 @@ def check_users(*users: str) -> None:
     for user in users:
         if not is_user(user):
             raise Stop(WRONG, f"{user!r} is not a user id: 1 to 32 of the letters a to z and the digits 0 to 9.")
+
+
+def is_noncharacter(character: str) -> bool:
+    """Whether Unicode never gives this code point to a character: 66 are so."""
+    number = ord(character)
+    return number & 0xFFFE == 0xFFFE or 0xFDD0 <= number <= 0xFDEF

@@ -3,6 +3,7 @@ from __future__ import annotations
 
 import json
 import os
+import threading
 import time
 from contextlib import contextmanager, suppress
 from typing import Callable, Iterator, Mapping
@@ -25,7 +26,7 @@ class Record:
     what. The room for a line is taken before the change is asked for, so that a full disk can't forget it."""
 
     def __init__(self, path: str) -> None:
-        self.path = path
+        self.path, self.threads = path, threading.Lock()
         if not fcntl:
             raise Stop(WRONG, f"The record {path} can't be kept on this system, which has no locks for it. Unset it, "
                               "or run indexctl on Linux or macOS. Nothing was asked for.")
@@ -54,6 +55,11 @@ class Record:
     def room(self, row: Mapping[str, object]) -> Iterator[Callable[[], None]]:
         """Gives what keeps this row. If that isn't called, the record stays as it was."""
         line = f"{json.dumps(row)}\n".encode()
+        # a lock of the file is of this run, with all its threads
+        with self.threads:
+            yield from self.locked_room(row, line)
+
+    def locked_room(self, row: Mapping[str, object], line: bytes) -> Iterator[Callable[[], None]]:
         self.lock()
         end, is_kept = os.fstat(self.file).st_size, []
         try:

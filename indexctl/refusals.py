@@ -13,10 +13,12 @@ from indexctl.standings import Standing, find_standing
 from indexctl.transport import Index
 from indexctl.units import YEAR, counted, due, human
 from package_index.hints import HINTS, fields_of, hint
-from package_index.names import read_file_name
+from package_index.names import is_user, read_file_name
 
 # what a person who mistypes a file's name has to know beside
 OF_FILE_NAMES = " A file's name has `_` for the hyphens of its project's name."
+# the requests that name a user and a project, with the verb of each
+OWNER = {"add_owner": "add", "remove_owner": "remove"}
 OF_STANDING = {"owners", "charge", "quota", "candidate", "lacks", "latest"}
 OF_FILES = {"files", "releases"}
 
@@ -28,6 +30,9 @@ def hint_of(index: Index, answer: str, row: Mapping[str, object]) -> str:
     if answer == "NoProject" and name and row.get("do") != "upload":
         # who doesn't upload has mistyped the name, and must not be led to claim it
         return not_held(index, name) + (OF_FILE_NAMES if file else "")
+    if answer == "NoUser" and is_swapped(index, row):
+        meant = f"indexctl owner {OWNER[str(row['do'])]} {name} {row['user']}"
+        return f"{row['user']} is a project. Did you mean `{meant}`?"
     known = {"source": index.setting.source, "user": str(row.get("user", "")), "name": name}
     asked = fields_of(HINTS.get(answer, ""))
     # the refusal stands, even if nothing more can be looked up
@@ -40,6 +45,15 @@ def hint_of(index: Index, answer: str, row: Mapping[str, object]) -> str:
             known.update(files=counted(len(files), "file"), releases=releases or "no files at all")
     more = " A case may be closed by its candidate too." if row.get("do") == "close_case" else ""
     return hint(answer, **{key: text for key, text in known.items() if text}) + (more if answer == "NotOffice" else "")
+
+
+def is_swapped(index: Index, row: Mapping[str, object]) -> bool:
+    """Whether the user and the project of a change of owners changed places: the one is a project, and the other may be
+    a user."""
+    with suppress(Stop):
+        may_be = row.get("do") in OWNER and is_user(str(row.get("name")))
+        return may_be and find_standing(index, str(row.get("user"))).state == "held"
+    return False
 
 
 def known_of_standing(found: Standing) -> Dict[str, str]:

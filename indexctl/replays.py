@@ -2,11 +2,13 @@
 from __future__ import annotations
 
 import urllib.parse
+import zlib
 from dataclasses import dataclass
 from typing import Any, Dict, List, Optional, Sequence
 
 from indexctl.changes import Desk
 from indexctl.ends import WRONG, Stop
+from indexctl.logs import text_of
 from indexctl.names import project_of
 from indexctl.standings import Case, find_standing
 from indexctl.terminal import note
@@ -44,8 +46,8 @@ class Line:
 def logged_row(found: Dict[str, Any]) -> Dict[str, Any]:
     """What a line of nginx's log of changes asked for, or nothing if it does not say that."""
     if found.get("method") == "POST" and found.get("path", REQUESTS) != REQUESTS:
-        # the log does not have the name of the file
-        return {"do": "upload", "file": ""}
+        # older logs don't name the file, and a form that could not be read has none
+        return {"do": "upload", "file": str(found.get("file", ""))}
     file = urllib.parse.unquote(str(found.get("path", "")).rsplit("/", 1)[-1])
     if found.get("method") in ("PUT", "DELETE"):
         return {"do": "upload" if found["method"] == "PUT" else "delete", "file": file}
@@ -84,10 +86,10 @@ def read_line(number: int, text: str) -> Optional[Line]:
 
 def read_lines(path: str) -> List[Line]:
     try:
-        with open(path, encoding="utf-8", errors="replace") as kept:
+        with text_of(path) as kept:
             texts = kept.read().split("\n")
-    except OSError as end:
-        raise Stop(WRONG, f"{path} can't be read: {end.strerror}") from end
+    except (OSError, EOFError, zlib.error) as end:
+        raise Stop(WRONG, f"{path} can't be read: {getattr(end, 'strerror', None) or end}") from end
     lines = [read_line(number, text) for number, text in enumerate(texts, 1) if text.strip()]
     return [it for it in lines if it]
 

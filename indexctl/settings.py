@@ -100,8 +100,12 @@ def parts_of_url(url: str, what: str) -> urllib.parse.SplitResult:
     except ValueError as end:
         raise Stop(WRONG, f"{what} is {shown!r}. Write an address such as https://packages.example.") from end
     is_whole = parts.scheme in ("http", "https") and is_host(parts.hostname or "") and is_text(url)
-    if not is_whole or not parts.hostname or parts.path.strip("/") or parts.query or parts.fragment:
+    # (a path with `@` has a part of a password)
+    if not is_whole or not parts.hostname or parts.query or parts.fragment or "@" in parts.path:
         raise Stop(WRONG, f"{what} is {shown!r}, not an address such as https://packages.example, without a path.")
+    if parts.path.strip("/"):
+        raise Stop(WRONG, f"{what} is {shown!r}. Leave out {parts.path}, which is for another client: the address of "
+                          f"the index is {plain_url(parts)}.")
     if parts.scheme == "http" and not is_loopback(parts.hostname):
         raise Stop(WRONG, f"{what} has to be https: a token is a password, and would cross the network in the clear.")
     return parts
@@ -167,6 +171,9 @@ def read_profiles() -> Dict[str, Dict[str, str]]:
 
 def setting_of_profile(name: Optional[str]) -> Setting:
     profiles = read_profiles()
+    if name and not profiles:
+        raise Stop(WRONG, f"There is no profile {name!r}: {PROFILES} is not there, or has none. `indexctl profile "
+                          "--help` shows what it has.")
     if not name:
         name = "default" if "default" in profiles or len(profiles) != 1 else list(profiles)[0]
     values = profiles.get(name)

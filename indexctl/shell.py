@@ -6,7 +6,7 @@ import re
 from typing import List
 
 from indexctl.about import ABOUT, AGAIN, ENVIRONMENT, FILES, STATUSES, VERSION
-from indexctl.command_line import COMMANDS, Command, command, more_text, parsers, sentence
+from indexctl.command_line import ALIASES, COMMANDS, Command, command, more_text, parsers, sentence
 from indexctl.terminal import put
 
 
@@ -32,6 +32,8 @@ def manual_of(it: Command, parser: argparse.ArgumentParser) -> List[str]:
     """The part of the manual page on one command."""
     usage = re.sub(r"usage: |\[-h\] |\[--profile NAME\] \[--again N\] ", "", re.sub(r"\s+", " ", parser.format_usage()))
     lines = [".SS", roff(usage.strip()), roff(sentence(it.summary)), *roff_body(more_text(it.function))]
+    for alias in (alias for alias, path in ALIASES.items() if path == it.path):
+        lines += [".PP", roff(f"`indexctl {alias}` is the same.")]
     for given in it.arguments:
         if "help" in given.settings:
             head = [*(given.names[-1:] if given.is_option else ()), given.settings.get("metavar", "")]

@@ -194,5 +194,9 @@ def held_names(index: Index, is_fresh: bool = False) -> Iterator[Standing]:
 
     Each is asked for each time: the index gives no sign by which a standing that was kept could be known to be as it
     was."""
-    names = listed_names(index, is_fresh)
+    return standings_of(index, listed_names(index, is_fresh))
+
+
+def standings_of(index: Index, names: Sequence[str]) -> Iterator[Standing]:
+    """The standings of these names of the index's list that are held."""
     return (it for it in side_by_side(functools.partial(walked_standings, index), names, "names") if it.state == "held")

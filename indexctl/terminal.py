@@ -50,15 +50,18 @@ class Progress:
     def __exit__(self, *_: object) -> None:
         self.clear()
 
+    def text(self) -> str:
+        return f"{self.what}: {self.done} of {self.total}, {100 * self.done // max(1, self.total)} %"
+
     def step(self, count: int = 1) -> None:
         self.done += count
         now = time.monotonic()
         if not self.is_watched or now - self.last < SECONDS_BETWEEN_DRAWINGS:
             return
         self.last = now
-        share = f"{self.what}: {self.done} of {self.total}, {100 * self.done // max(1, self.total)} %"
         with Progress.lock:
-            print(f"\r{share[:shutil.get_terminal_size().columns - 1]}\033[K", end="", file=sys.stderr, flush=True)
+            text = self.text()[:shutil.get_terminal_size().columns - 1]
+            print(f"\r{text}\033[K", end="", file=sys.stderr, flush=True)
             Progress.drawn = self
 
     @staticmethod
@@ -77,14 +80,26 @@ def put(text: str, end: str = "\n") -> None:
         raise OSError(why.errno, why.strerror, "standard output") from why
 
 
-def say(text: str, colour: Optional[str] = None) -> None:
-    """Prints a line of what was done, on standard error if it can't go out otherwise."""
+def say(text: str, colour: Optional[str] = None, printed: Optional[str] = None) -> None:
+    """Prints a line of what was done, or in its place what is printed of it for a program. If that can't go out, the
+    line goes to standard error."""
     Progress.clear()
     try:
-        put(paint(printable(text), colour))
+        put(paint(printable(text), colour) if printed is None else printed)
     except OSError:
         note(text)
         raise
+
+
+def say_row(is_json: bool, sentence: str, row: Optional[Mapping[str, object]] = None) -> None:
+    """Prints a line of what was done: the sentence, or with --json this row as a line of JSON. A sum, which has no row,
+    goes to standard error then: who reads the rows can count them."""
+    if not is_json:
+        say(sentence)
+    elif row is None:
+        note(sentence)
+    else:
+        say(sentence, printed=json.dumps(row))
 
 
 def note(text: str, colour: Optional[str] = None) -> None:

@@ -17,7 +17,7 @@ from http.client import HTTPConnection, HTTPMessage, HTTPSConnection
 from typing import Any, Callable, Dict, Iterable, List, Optional, Sequence, Tuple
 
 from indexctl.ends import REFUSED, UNREACHED, WRONG, Stop
-from indexctl.settings import Setting, is_loopback
+from indexctl.settings import Setting, is_loopback, without_password
 from indexctl.terminal import note
 from indexctl.units import counted
 from package_index.hints import hint
@@ -112,11 +112,16 @@ class Index:
             return HTTPSConnection(host, port, timeout=self.patience, context=self.trust)
         return PlainConnection(host, port, timeout=self.patience)
 
+    def proxy(self) -> str:
+        """The proxy through which the network reaches the index, or an empty text."""
+        host = self.parts.hostname or ""
+        proxy = urllib.request.getproxies().get(self.parts.scheme) if self.trust else None
+        return proxy if proxy and not is_loopback(host) and not urllib.request.proxy_bypass(host) else ""
+
     def connection(self) -> HTTPConnection:
         """A new connection, which is not open yet, through the proxy of the network if the environment names one."""
-        host, port = self.parts.hostname or "", self.parts.port
-        proxy = urllib.request.getproxies().get(self.parts.scheme) if self.trust else None
-        if proxy and not is_loopback(host) and not urllib.request.proxy_bypass(host):
+        host, port, proxy = self.parts.hostname or "", self.parts.port, self.proxy()
+        if proxy:
             through = urllib.parse.urlsplit(proxy if "//" in proxy else f"//{proxy}")
             made = self.opened(through.hostname or "", through.port or 80)
             login = f"{urllib.parse.unquote(through.username or '')}:{urllib.parse.unquote(through.password or '')}"
@@ -132,8 +137,9 @@ class Index:
             raise Stop(WRONG, untrusted(self.setting.url, end)) from end
         except OSError as end:
             if isinstance(end, socket.gaierror) and end.errno == socket.EAI_NONAME:
-                raise Stop(WRONG, f"There is no host {connection.host}, which {self.setting.place} names. Is the "
-                                  "address right?") from end
+                place = "https_proxy" if self.proxy() else self.setting.place
+                raise Stop(WRONG, f"There is no host {connection.host}, which {place} names. Is the address "
+                                  "right?") from end
             if getattr(end, "reason", "") == NO_TLS:
                 raise Stop(WRONG, f"What answers at {self.setting.url}, which {self.setting.place} names, does not "
                                   "speak TLS. Is the address right?") from end
@@ -201,7 +207,7 @@ class Index:
 
     def ask(self, what: str, request: Request) -> Reply:
         """The reply, once it is none that passes by itself. Stops if there is no such reply after all trials."""
-        is_repeat, why = False, ""
+        is_repeat, was_sent, why = False, True, ""
         for trial in range(self.again + 1):
             later, was_sent = "", True
             try:
@@ -223,6 +229,9 @@ class Index:
                 time.sleep(pause)
         maybe = " It may have been done, and is in no record then." if is_repeat and request.method != "GET" else ""
         cause = f"The index at {self.setting.url} does not answer now."
+        if not was_sent and self.proxy():
+            cause = (f"It is asked through the proxy {without_password(self.proxy())}, which https_proxy names. Is "
+                     "that right? If the index needs no proxy, name its host in no_proxy.")
         if why == "500 Store" and request.method != "GET":
             cause = hint("Store")
         raise Stop(UNREACHED, f"{what}: {why}, {counted(self.again + 1, 'time')}. {cause}{maybe} Run this again later.")

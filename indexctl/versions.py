@@ -2,11 +2,11 @@
 from __future__ import annotations
 
 import re
-from typing import Any, Tuple
+from typing import Any, List, Tuple
 
 PRE = {"a": "a", "alpha": "a", "b": "b", "beta": "b", "c": "rc", "rc": "rc", "pre": "rc", "preview": "rc"}
 VERSION = re.compile(r"v?(?:(\d+)!)?(\d+(?:\.\d+)*)(?:[._]?(a|b|c|rc|alpha|beta|pre|preview)[._]?(\d*))?"
-                     r"([._]?(?:post|rev|r)[._]?(\d*))?([._]?dev[._]?(\d*))?(?:\+([a-z0-9._]+))?")
+                     r"([._]?(?:post|rev|r)[._]?(\d*))?([._]?dev[._]?(\d*))?(?:\+([a-z0-9]+(?:[._][a-z0-9]+)*))?")
 LEAST, MOST = (0,), (2,)
 
 
@@ -32,6 +32,12 @@ def is_final(release: str) -> bool:
     """Whether this is a version, and neither a pre-release nor one of development."""
     found = VERSION.fullmatch(release.lower())
     return found is not None and not found[3] and not found[7]
+
+
+def numbers_of(release: str) -> List[str]:
+    """The numbers of the dev, the post and the pre part of a version, of those that it has."""
+    found = VERSION.fullmatch(release.lower())
+    return [it for it in (found[8], found[6], found[4]) if it] if found else []
 
 
 def local_order(local: str) -> Tuple[Any, ...]:

@@ -8,6 +8,10 @@ FILES = argument("files", nargs="+", metavar="FILE", help="the name of a file on
 USER, USERS = argument("user", metavar="USER"), argument("users", nargs="+", metavar="USER")
 YES = argument("--yes", action="store_true", help="does not ask before what can't be taken back")
 JSON = argument("--json", action="store_true", help="prints JSON")
-RELEASE = argument("release", metavar="RELEASE", help="the version, as it stands in the names of its files")
+NAME_OF_RELEASES = argument("name", metavar="NAME", help="a name, or NAME==RELEASE")
+RELEASES = argument("releases", nargs="*", metavar="RELEASE",
+                    help="versions as they stand in the names of files, or NAME==RELEASE of further names")
+# of a command that changes or makes something
+JSON_LINES = argument("--json", action="store_true", help="prints a line of JSON for each change")
 TOKEN_DIGEST = argument("--digest", metavar="HEX",
                         help="the digest of the user's own token, as `token digest` prints it")

@@ -7,9 +7,9 @@ import time
 from indexctl.cases import MEANS, CaseRow, lacks_text, ready_text
 from indexctl.changes import Desk
 from indexctl.command_line import argument, command
-from indexctl.commands.arguments import JSON, NAME, YES
+from indexctl.commands.arguments import JSON, JSON_LINES, NAME, NAMES, YES
 from indexctl.commands.listings import held
-from indexctl.commands.names import change_name
+from indexctl.commands.names import change_name, each_name
 from indexctl.ends import REFUSED, WRONG, Stop
 from indexctl.names import check_names, check_texts
 from indexctl.probe import open_cases
@@ -59,7 +59,7 @@ def case_show(args: argparse.Namespace) -> None:
          argument("--contact", required=True, metavar="TEXT", help="how you tried to reach the owner"),
          argument("--work", required=True, metavar="TEXT",
                   help="what your fork improves, or which project needs the name"),
-         argument("--why", required=True, metavar="TEXT", help="why another name won't do"))
+         argument("--why", required=True, metavar="TEXT", help="why another name won't do"), JSON_LINES)
 def case_open(args: argparse.Namespace) -> int:
     check_names(args.name)
     check_texts(args.contact, args.work, args.why)
@@ -71,33 +71,36 @@ def case_open(args: argparse.Namespace) -> int:
                        work=args.work, why=args.why)
 
 
-@command("case attempt", "records an attempt to reach the owner (office)", NAME,
+@command("case attempt", "records an attempt to reach the owners of names (office)", NAMES,
          argument("means", metavar="MEANS", choices=MEANS, help="profile, author or pages"),
-         argument("--not-sent", action="store_true", help="the owner has left no address of this kind"))
+         argument("--not-sent", action="store_true", help="the owner has left no address of this kind"), JSON_LINES)
 def case_attempt(args: argparse.Namespace) -> int:
     """Each counts from now on, and the same again is a second attempt. It is sent to the index once."""
-    what = f"case of {args.name}: attempt by {args.means}{', not sent' if args.not_sent else ''}"
-    return change_name(args, what, do="record_attempt", means=args.means, sent=not args.not_sent)
+    what = f"case of {{}}: attempt by {args.means}{', not sent' if args.not_sent else ''}"
+    return each_name(args, "record_attempt", what, means=args.means, sent=not args.not_sent)
 
 
-@command("case answer", "ends a case as an owner", NAME)
+@command("case answer", "ends cases as an owner", NAMES, JSON_LINES)
 def case_answer(args: argparse.Namespace) -> int:
-    return change_name(args, f"case of {args.name}: answer", do="answer_case")
+    return each_name(args, "answer_case", "case of {}: answer")
 
 
-@command("case close", "closes a case, as the office or its candidate", NAME)
+@command("case close", "closes cases, as the office or their candidate", NAMES, JSON_LINES)
 def case_close(args: argparse.Namespace) -> int:
-    return change_name(args, f"case of {args.name}: close", do="close_case")
+    return each_name(args, "close_case", "case of {}: close")
 
 
-@command("case transfer", "passes a name to the candidate of its case (office)", NAME,
+@command("case transfer", "passes names to the candidates of their cases (office)", NAMES,
          argument("--quiet", action="store_true", required=True,
-              help="you looked: the owner's home page shows no activity, or none is listed"), YES)
+              help="you looked: the home page of each owner shows no activity, or none is listed"), YES, JSON_LINES)
 def case_transfer(args: argparse.Namespace) -> int:
-    """The owners lose the name, which nothing gives back to them. --quiet is your statement, and has to be true."""
+    """The owners lose the names, which nothing gives back to them. --quiet is your statement, and has to be true."""
     desk = Desk(args)
-    found = held(desk.index, args.name)
-    if found.case:
-        confirm(args, f"{found.name} passes from {', '.join(found.owners)} to {found.case.candidate}, for good.")
-    desk.change(f"case of {args.name}: transfer", {"do": "transfer", "name": args.name, "quiet": True})
+    found = [held(desk.index, name) for name in args.names]
+    passes = [f"{it.name} passes from {', '.join(it.owners)} to {it.case.candidate}, for good."
+              for it in found if it.case]
+    if passes:
+        confirm(args, " ".join(passes))
+    for name in args.names:
+        desk.change(f"case of {name}: transfer", {"do": "transfer", "name": name, "quiet": True})
     return desk.status()

@@ -41,8 +41,9 @@ RELEASE_COLUMNS: Columns = {**texts("release"), "size": size_text, "yanked": yan
 
 
 def contents_of(index: Index, name: str) -> List[FileRow]:
-    """The files of a name that has to be held."""
-    found = find_contents(index, name)
+    """The files of a name that has to be held, as they are now. In a page that nginx keeps for a second or two, a file
+    that was just deleted or banned would be listed still."""
+    found = find_contents(index, name, is_fresh=True)
     if found is None:
         raise Stop(REFUSED, not_held(index, name))
     return found
@@ -81,7 +82,7 @@ def status(args: argparse.Namespace) -> None:
 def status_row(desk: Desk, found: Standing) -> StatusRow:
     cases = open_cases(desk, [found], int(time.time()))[0] if found.case else []
     return StatusRow(found.shown or found.name, found.state, found.owners, found.charge, found.quota,
-                     cases[0] if cases else None, find_contents(desk.index, found.name) or [])
+                     cases[0] if cases else None, find_contents(desk.index, found.name, is_fresh=True) or [])
 
 
 def status_texts(row: StatusRow) -> Dict[str, str]:

@@ -3,19 +3,20 @@ from __future__ import annotations
 
 import argparse
 from dataclasses import dataclass
-from typing import Any, List, Optional
+from typing import Any, Iterable, List, Optional
 
 from indexctl.changes import Desk
 from indexctl.command_line import argument, command
-from indexctl.commands.arguments import JSON, NAME, NAMES, USER
+from indexctl.commands.arguments import JSON, JSON_LINES, NAMES, USER
 from indexctl.ends import REFUSED, Stop
 from indexctl.names import check_names, check_users
-from indexctl.near import not_held
+from indexctl.near import did_you_mean, not_held
 from indexctl.quotas import quota_row, quota_rows
-from indexctl.standings import Standing, find_standing, held_names
-from indexctl.terminal import Columns, listing, texts
+from indexctl.standings import Standing, find_standing, held_names, listed_names, standings_of
+from indexctl.terminal import Columns, listing, note, texts
 from indexctl.transport import Index
 from indexctl.units import counted, human, size_of
+from package_index.names import normal
 
 
 @dataclass(frozen=True)
@@ -52,16 +53,18 @@ def held(index: Index, name: str) -> Standing:
     return found
 
 
-@command("quota set", "gives a name another quota (office)", NAME,
-         argument("size", metavar="SIZE", help="5GiB, 700MB or a number of bytes; +1GiB adds to what the name has"))
+@command("quota set", "gives names another quota (office)", NAMES,
+         argument("size", metavar="SIZE", help="5GiB, 700MB or a number of bytes; +1GiB adds to what the name has"),
+         JSON_LINES)
 def quota_set(args: argparse.Namespace) -> int:
     # a slip in the size is told before the index is asked for what the name has
     size_of(args.size)
     desk = Desk(args)
-    found = held(desk.index, args.name)
-    wanted = size_of(args.size, found.quota)
-    desk.change(f"quota of {found.name}: {human(found.quota)} becomes {human(wanted)} ({counted(wanted, 'byte')})",
-                {"do": "set_quota", "name": args.name, "quota": wanted})
+    # a slip in a name is found before the first quota changes
+    for found in [held(desk.index, it) for it in args.names]:
+        wanted = size_of(args.size, found.quota)
+        desk.change(f"quota of {found.name}: {human(found.quota)} becomes {human(wanted)} ({counted(wanted, 'byte')})",
+                    {"do": "set_quota", "name": found.name, "quota": wanted})
     return desk.status()
 
 
@@ -82,11 +85,28 @@ def quotas(args: argparse.Namespace) -> None:
     listing(args, quota_rows(held_names(Desk(args).index), args.above), QUOTA_COLUMNS)
 
 
-@command("names", "lists all held names with their owners", JSON)
-def names(args: argparse.Namespace) -> None:
-    rows = [NameRow(it.shown, it.owners, it.charge, bool(it.case)) for it in held_names(Desk(args).index)]
+def list_names(args: argparse.Namespace, found: Iterable[Standing]) -> None:
+    rows = [NameRow(it.shown, it.owners, it.charge, bool(it.case)) for it in found]
     listing(args, rows, {**texts("name", "owners"), "charge": charge_text,
                          "case": lambda row: "open" if row.case else ""})
+
+
+@command("names", "lists all held names with their owners", JSON)
+def names(args: argparse.Namespace) -> None:
+    list_names(args, held_names(Desk(args).index))
+
+
+@command("search", "lists the held names that have each of these words in them",
+         argument("words", nargs="+", metavar="WORD", help="a part of a name, in any spelling"), JSON)
+def search(args: argparse.Namespace) -> None:
+    """It looks at names alone. If your index has pages for everybody, a browser also finds summaries there."""
+    index = Desk(args).index
+    known = listed_names(index)
+    words = [normal(it).strip("-") for it in args.words]
+    found = [it for it in known if all(word in normal(it) for word in words)]
+    if not found:
+        note(f"No name has that.{did_you_mean('-'.join(words), known)}")
+    list_names(args, standings_of(index, found))
 
 
 @command("who", "shows how names stand: who owns them, their quota, and whether a case is open", NAMES, JSON)

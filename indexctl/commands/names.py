@@ -3,15 +3,16 @@ from __future__ import annotations
 
 import argparse
 import shlex
-from typing import Sequence
+from typing import List, Sequence
 
 from indexctl.changes import Desk
 from indexctl.command_line import command
-from indexctl.commands.arguments import NAME, NAMES, USER, YES
+from indexctl.commands.arguments import JSON_LINES, NAME, NAMES, USER, YES
 from indexctl.contents import find_contents
 from indexctl.names import check_names, check_users
+from indexctl.served import tell_served
 from indexctl.standings import find_standing
-from indexctl.terminal import confirm, confirm_on_terminal, note, say
+from indexctl.terminal import confirm, confirm_on_terminal, note
 from indexctl.transport import Index
 from indexctl.units import counted
 from package_index.names import normal
@@ -34,21 +35,22 @@ def change_name(args: argparse.Namespace, what: str, do: str, **row: object) -> 
     return desk.status()
 
 
-def tell_uncache(project: str, files: Sequence[str]) -> None:
+def tell_uncache(desk: Desk, project: str, files: Sequence[str]) -> None:
     """Prints the commands that take these files out of what nginx has cached, for a shell: it has a meaning of its own
     for the `!` that a version may have."""
     if files:
         note("On the server, take out of nginx what it has cached:")
     for file in files:
-        say(f"index-uncache {project} {shlex.quote(file)}")
+        run = f"index-uncache {project} {shlex.quote(file)}"
+        desk.say(run, {"do": "uncache", "name": project, "file": file, "run": run})
 
 
-@command("name claim", "claims names that nobody holds", NAMES)
+@command("name claim", "claims names that nobody holds", NAMES, JSON_LINES)
 def name_claim(args: argparse.Namespace) -> int:
     return each_name(args, "claim", "claim {}")
 
 
-@command("name relinquish", "gives a name up, so that anybody may claim it", NAME, YES)
+@command("name relinquish", "gives a name up, so that anybody may claim it", NAME, YES, JSON_LINES)
 def name_relinquish(args: argparse.Namespace) -> int:
     check_names(args.name)
     desk = Desk(args)
@@ -57,10 +59,10 @@ def name_relinquish(args: argparse.Namespace) -> int:
     return desk.status()
 
 
-@command("name prohibit", "prohibits names, and deletes their files (office)", NAMES, YES)
+@command("name prohibit", "prohibits names, and deletes their files (office)", NAMES, YES, JSON_LINES)
 def name_prohibit(args: argparse.Namespace) -> int:
     """The files, owners, yanks and the case of each name go. What nginx has cached still goes out: run the
-    index-uncache lines that are printed, on the server."""
+    index-uncache lines that are printed, on the server. At its end it says of which files that is so."""
     check_names(*args.names)
     desk = Desk(args)
     found = {name: (find_standing(desk.index, name), find_contents(desk.index, name, is_fresh=True) or [])
@@ -69,25 +71,28 @@ def name_prohibit(args: argparse.Namespace) -> int:
              for name, (at, files) in found.items() if at.state == "held"]
     if there:
         confirm(args, f"This deletes files and takes names from their owners: {'; '.join(there)}.")
+    gone: List[str] = []
     for name, (_, files) in found.items():
         if desk.change(f"prohibit {name}", {"do": "prohibit", "name": name}):
-            tell_uncache(normal(name), [it.file for it in files])
+            gone += [it.file for it in files]
+            tell_uncache(desk, normal(name), [it.file for it in files])
+    tell_served(desk, gone)
     return desk.status()
 
 
-@command("name allow", "frees names that were prohibited (office)", NAMES)
+@command("name allow", "frees names that were prohibited (office)", NAMES, JSON_LINES)
 def name_allow(args: argparse.Namespace) -> int:
     return each_name(args, "allow", "allow {}")
 
 
-@command("owner add", "makes a user an owner of names", USER, NAMES)
+@command("owner add", "makes a user an owner of names", USER, NAMES, JSON_LINES)
 def owner_add(args: argparse.Namespace) -> int:
     """An owner may do everything with a name, also remove you. Give each pipeline a user of its own."""
     check_users(args.user)
     return each_name(args, "add_owner", f"{{}}: add owner {args.user}", user=args.user)
 
 
-@command("owner remove", "takes a user off the owners of names", USER, NAMES, YES)
+@command("owner remove", "takes a user off the owners of names", USER, NAMES, YES, JSON_LINES)
 def owner_remove(args: argparse.Namespace) -> int:
     """On a terminal it shows who stays, and asks: only another owner can take you back."""
     check_users(args.user)

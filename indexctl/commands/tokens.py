@@ -27,7 +27,7 @@ def token_new(args: argparse.Namespace) -> None:
         put(f"token   {token}\ndigest  {sha256(token)}")
 
 
-@command("token digest", "prints the digest of a token that is typed or piped in")
+@command("token digest", "prints the digest of a token that is typed or piped in", JSON)
 def token_digest(args: argparse.Namespace) -> None:
     """The token is never a word of a command, since other users of the machine see those."""
     try:
@@ -36,7 +36,7 @@ def token_digest(args: argparse.Namespace) -> None:
         token = ""
     if not re.fullmatch(TOKEN, token):
         raise Stop(WRONG, "Type or pipe in one line of plain characters, which is the token.")
-    put(sha256(token))
+    put(json.dumps({"digest": sha256(token)}) if args.json else sha256(token))
 
 
 @command("token check", "says which index you ask, and whether your token is known there", JSON)

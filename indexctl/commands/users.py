@@ -8,7 +8,7 @@ from typing import List, Optional, Sequence, Tuple
 
 from indexctl.changes import Desk, Row
 from indexctl.command_line import argument, command
-from indexctl.commands.arguments import TOKEN_DIGEST, USER, USERS, YES
+from indexctl.commands.arguments import JSON_LINES, TOKEN_DIGEST, USER, USERS, YES
 from indexctl.ends import REFUSED, UNREACHED, WRONG, Stop
 from indexctl.interrupts import told_if_interrupted
 from indexctl.names import DIGEST, check_users, sha256
@@ -29,12 +29,13 @@ def digest_of(args: argparse.Namespace) -> Tuple[str, Optional[str]]:
 def give_token(desk: Desk, what: str, row: Row, token: Optional[str]) -> None:
     """Asks for a change that makes a token known, and prints one that was made here, once, if it may be so now."""
     shown = f"{row['user']}'s token, which is shown this once: {token}"
+    by_row: Row = {"token": token} if token else {}
     try:
-        if desk.change(what, row) and token:
+        if desk.change(what, row, shown=by_row) and token and not desk.is_json:
             put(shown)
     except Stop as end:
         if token and end.status == UNREACHED:
-            put(f"If it was done: {shown}")
+            desk.say(f"If it was done: {shown}", {**row, "answer": "unknown", **by_row})
         raise
     except OSError:
         # as if what reads the output is gone, or the disk of its file is full
@@ -45,7 +46,8 @@ def give_token(desk: Desk, what: str, row: Row, token: Optional[str]) -> None:
 
 
 @command("user add", "adds users; each gets a new token, which is printed once (office)", USERS,
-         argument("--office", action="store_true", help="makes it a user of the office, for good"), TOKEN_DIGEST, YES)
+         argument("--office", action="store_true", help="makes it a user of the office, for good"), TOKEN_DIGEST, YES,
+         JSON_LINES)
 def user_add(args: argparse.Namespace) -> int:
     """A user is never removed, and the office flag never changes. --digest is for one user, who has made the token."""
     check_users(*args.users)
@@ -61,7 +63,7 @@ def user_add(args: argparse.Namespace) -> int:
     return desk.status()
 
 
-@command("user rotate", "gives a user another token at once (office)", USER, TOKEN_DIGEST)
+@command("user rotate", "gives a user another token at once (office)", USER, TOKEN_DIGEST, JSON_LINES)
 def user_rotate(args: argparse.Namespace) -> int:
     """The old token ends at once. For a pipeline that must not stop, add a second user and let the two take turns."""
     check_users(args.user)
@@ -81,7 +83,7 @@ def check_not_own(desk: Desk, users: Sequence[str]) -> None:
                           f"{user}` for another token. Nothing was done.")
 
 
-@command("user lock", "gives users a token that nobody knows (office)", USERS)
+@command("user lock", "gives users a token that nobody knows (office)", USERS, JSON_LINES)
 def user_lock(args: argparse.Namespace) -> int:
     """The user stays, and owns what it owns. `user rotate` opens it again."""
     check_users(*args.users)
@@ -95,7 +97,7 @@ def user_lock(args: argparse.Namespace) -> int:
 
 @command("user leave", "passes a user's names to another, and locks the user (office)", USER,
          argument("--to", metavar="HEIR", help="who owns the names from now on; needed if the user owns one alone"),
-         YES)
+         YES, JSON_LINES)
 def user_leave(args: argparse.Namespace) -> int:
     """Only an owner may change owners. So the office gives the user a token that this program alone knows, and acts as
     the user; nobody knows the token afterwards. An owner's act ends an open case of a name, so those end too. The cases

@@ -10,6 +10,7 @@ from typing import Dict, Sequence
 
 from indexctl.changes import Desk
 from indexctl.command_line import argument, command
+from indexctl.commands.arguments import JSON_LINES
 from indexctl.ends import REFUSED, WRONG, Stop
 from indexctl.interrupts import told_if_interrupted
 from indexctl.names import sha256
@@ -18,7 +19,7 @@ from indexctl.probe import open_cases
 from indexctl.quotas import Overview
 from indexctl.replays import Attempts, Line, lines_since, read_lines, replay_line, why_left
 from indexctl.standings import Case, find_standing, held_names
-from indexctl.terminal import note, say
+from indexctl.terminal import note, say_row
 from indexctl.units import counted, read_moment
 from indexctl.uploads import files_of, upload_file
 
@@ -27,7 +28,8 @@ from indexctl.uploads import files_of, upload_file
          argument("paths", nargs="+", metavar="PATH",
                   help="a file, or a folder of which each .whl and .tar.gz is taken"),
          argument("--claim", action="store_true", help="claims a name that nobody holds"),
-         argument("--dry-run", action="store_true", help="checks all files, says what would go out, and ends"))
+         argument("--dry-run", action="store_true", help="checks all files, says what would go out, and ends"),
+         JSON_LINES)
 def upload(args: argparse.Namespace) -> int:
     """All files are read and checked before the first goes out: the name, the size, and the metadata inside, which has
     Requires-Python. Wheels go first and source archives last, so that nobody builds what is there as a wheel a moment
@@ -35,9 +37,10 @@ def upload(args: argparse.Namespace) -> int:
     (no connection, 500, 502, 503, 504) is tried again."""
     files, done, status = files_of(args.paths), 0, 0
     if args.dry_run:
-        for file in files:
-            requires = file.requires or "any"
-            say(f"{file.name}: {file.project}, {file.size} bytes, sha256 {file.digest}, Python {requires}")
+        for it in files:
+            text = f"{it.name}: {it.project}, {it.size} bytes, sha256 {it.digest}, Python {it.requires or 'any'}"
+            say_row(args.json, text, {"do": "upload", "file": it.name, "name": it.project, "size": it.size,
+                                      "sha256": it.digest, "requires_python": it.requires})
         return 0
     desk = Desk(args)
     desk.token()
@@ -52,7 +55,7 @@ def upload(args: argparse.Namespace) -> int:
             raise
         note(f"indexctl: {end}", "red")
         status = end.status
-    say(f"{done} of {len(files)} files are there")
+    desk.say(f"{done} of {len(files)} files are there")
     return status or (0 if done == len(files) else REFUSED)
 
 
@@ -77,7 +80,7 @@ def tell_ended(desk: Desk, cases: Dict[str, Case], project: str) -> None:
 
 @command("page", "writes the page of the office into a folder",
          argument("folder", metavar="DIR", help="a folder that is there"),
-         argument("--all", action="store_true", help="with the quotas of all names, and all owners"))
+         argument("--all", action="store_true", help="with the quotas of all names, and all owners"), JSON_LINES)
 def page(args: argparse.Namespace) -> None:
     """The page, DIR/index.html, is one file with open cases, what is due, names that look alike, quotas that are nearly
     full, and names with one owner. It asks for nothing from elsewhere. It is replaced as a whole. With a token of the
@@ -88,7 +91,8 @@ def page(args: argparse.Namespace) -> None:
     cases, _ = open_cases(desk, found.look_at(held_names(desk.index)), now)
     path = os.path.join(args.folder, "index.html")
     put_whole(path, page_of(desk.setting.url, found, cases, now))
-    say(f"{path}: {counted(len(found.owners), 'name')}, {counted(len(cases), 'open case')}")
+    desk.say(f"{path}: {counted(len(found.owners), 'name')}, {counted(len(cases), 'open case')}",
+             {"do": "page", "path": path, "names": len(found.owners), "cases": len(cases)})
 
 
 @command("replay", "asks again for the changes of a record, after a restore",
@@ -99,7 +103,7 @@ def page(args: argparse.Namespace) -> None:
               help="the line to begin at, after a replay that broke off"),
          argument("--caller", metavar="DIGITS",
                   help="asks for what the caller of these digits asked for, as if you had"),
-         argument("--dry-run", action="store_true", help="says what would be asked for, and ends"))
+         argument("--dry-run", action="store_true", help="says what would be asked for, and ends"), JSON_LINES)
 def replay(args: argparse.Namespace) -> int:
     """What you asked for yourself is asked for again, in its order, from the backup on. All else is listed, with who
     has to repeat it."""
@@ -115,14 +119,16 @@ def replay(args: argparse.Namespace) -> int:
                 if why:
                     left += 1
                     note(f"line {line.number} is left, {why}: {json.dumps(line.row)}", "yellow")
+                    if args.json:
+                        desk.say("", {**line.row, "line": line.number, "answer": "left", "hint": why})
                 elif not args.dry_run:
                     replay_line(desk, line)
                 else:
-                    say(f"line {line.number}: {json.dumps(line.row)}")
+                    desk.say(f"line {line.number}: {json.dumps(line.row)}", {**line.row, "line": line.number})
             except Stop as end:
                 raise Stop(end.status, f"line {line.number}: {end} {go_on(waiting)}") from end
             waiting.popleft()
-        say(f"{counted(len(lines) - left, 'line')} of yours, {left} left, {counted(desk.refused, 'refusal')}")
+        desk.say(f"{counted(len(lines) - left, 'line')} of yours, {left} left, {counted(desk.refused, 'refusal')}")
     return desk.status()
 
 
