@@ -21,6 +21,7 @@ RUN = (
     ("index.service", "index@%i.service"),
     ("index-health.service", "index-health@%i.service"),
     ("/index.prom", "/index-%i.prom"),
+    ("/state.json", "/%i.json"),
     ("127.0.0.1/8080", "127.0.0.1/%i"),
     ("port 8080", "port %i"),
 )
