@@ -3,6 +3,7 @@ from __future__ import annotations
 
 import errno
 import os
+import re
 import shutil
 from typing import Optional
 
@@ -33,6 +34,19 @@ def is_there(path: str) -> bool:
     except (FileNotFoundError, NotADirectoryError):
         return False
     return True
+
+
+def takes_no_writes(folder: str, mounts: str = "/proc/self/mountinfo") -> bool:
+    """Whether the file system of a folder is read-only as a whole, as ext4 makes it after an error of its disk. (A
+    mount of it may be so for one unit alone, and says nothing of that.)"""
+    folder, deepest, options = os.path.realpath(folder), "", ""
+    with open(mounts, encoding="utf-8", errors="replace") as listed:
+        for line in listed:
+            at = re.sub(r"\\([0-7]{3})", lambda it: chr(int(it[1], 8)), line.split()[4])
+            is_below = at == "/" or folder == at or folder.startswith(f"{at}/")
+            if is_below and len(at) >= len(deepest):
+                deepest, options = at, line.split()[-1]
+    return not {"ro", "emergency_ro", "shutdown"}.isdisjoint(options.split(","))
 
 
 def sync(path: str) -> None:

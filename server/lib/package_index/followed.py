@@ -3,16 +3,22 @@ from __future__ import annotations
 
 import hashlib
 import os
+import re
 import time
 from typing import BinaryIO, Callable, Generator, Iterator, NamedTuple, Optional, Tuple, TypeVar
 
-from package_index.changes import lines_of, rotated
+from package_index.changes import lines_of
 from package_index.disk import put_whole
+from package_index.log_place import rotated
 
 Kind = TypeVar("Kind")
 PAUSE = 0.2
 # of what was read, the last bytes by which a log is known again
 TAIL = 256
+# no line of nginx is longer: what is, as after a loss of power, is passed over
+LONGEST = 1 << 20
+# how a line says that a change was refused, so that nothing is gone; no value has a quotation mark that stands alone
+REFUSED = re.compile(rb'"status":\s*4\d\d[,}]')
 
 
 class Place(NamedTuple):
@@ -48,13 +54,18 @@ def place_of(log: BinaryIO) -> Place:
     return Place(os.fstat(log.fileno()).st_ino, log.tell(), digest_at(log, log.tell()))
 
 
-def whole_lines(log: BinaryIO) -> Iterator[str]:
-    """The lines from here on that have their ends; the place is behind the last of them."""
-    for line in iter(log.readline, b""):
-        if not line.endswith(b"\n"):
+def whole_lines(log: BinaryIO) -> Iterator[bytes]:
+    """The lines from here on that have their ends; the place is behind the last of them. One that is longer than
+    LONGEST is passed over."""
+    is_long = False
+    for line in iter(lambda: log.readline(LONGEST), b""):
+        has_end = line.endswith(b"\n")
+        if has_end and not is_long:
+            yield line
+        elif not has_end and len(line) < LONGEST:
             log.seek(-len(line), os.SEEK_CUR)
             return
-        yield line.decode("utf-8", "replace")
+        is_long = not has_end
 
 
 def left_at(path: str, place: Optional[Place]) -> Optional[BinaryIO]:
@@ -82,16 +93,19 @@ def is_followed_by(path: str, log: BinaryIO) -> bool:
 
 
 def lines_of_one(log: BinaryIO, path: str) -> Generator[Tuple[str, Optional[Place]], None, Optional[Place]]:
-    """The lines of one log of this path until it was rotated away, each with the place behind it. An empty line says
-    that there is none now. Returns the last place if the log was emptied, as logrotate's copytruncate does."""
+    """The lines of one log of this path until it was rotated away, each with the place behind it, but for those of
+    changes that were refused. An empty line says that there is none now. Returns the last place if the log was emptied,
+    as logrotate's copytruncate does."""
     is_last, place = False, place_of(log)
     while not is_last:
         is_last = is_followed_by(path, log)
         if digest_at(log, place.read) != place.digest:
             return place
         for line in whole_lines(log):
-            place = place_of(log)
-            yield line, place
+            if not REFUSED.search(line):
+                place = place_of(log)
+                yield line.decode("utf-8", "replace"), place
+        place = place_of(log)
         yield "", place
         if not is_last:
             time.sleep(PAUSE)
@@ -103,7 +117,7 @@ def lines_until_gone(log: BinaryIO, path: str) -> Iterator[Tuple[str, Optional[P
     copy = left_at(path, (yield from lines_of_one(log, path)))
     if copy:
         with copy:
-            yield from ((line, None) for line in whole_lines(copy))
+            yield from ((line.decode("utf-8", "replace"), None) for line in whole_lines(copy))
 
 
 def rotated_since(path: str, inode: int) -> Iterator[str]:
@@ -111,7 +125,7 @@ def rotated_since(path: str, inode: int) -> Iterator[str]:
     paths = rotated(path)
     after = [at for at, each in enumerate(paths, 1) if os.stat(each).st_ino == inode]
     for each in paths[after[0] if after else 0:]:
-        if each != path:
+        if each != os.path.realpath(path):
             yield from lines_of(each)
 
 

@@ -86,3 +86,15 @@ def fault_of_certificate(front: Front, patience: float, days: float) -> str:
     end = str(named["notAfter"])
     left = (ssl.cert_time_to_seconds(end) - time.time()) / 86400
     return f"nginx's certificate for {front.host} ends in {left:.0f} days, {end}" if left < days else ""
+
+
+def fault_of_chain(front: Front, patience: float, authority: str) -> str:
+    """Whether a client that trusts these authorities alone believes nginx: it does not if nginx sends the certificate
+    without those that lead to them."""
+    trust = ssl.create_default_context(cafile=authority)
+    try:
+        connect(front, trust, patience).close()
+    except ssl.SSLCertVerificationError as refused:
+        return (f"nginx's certificate for {front.host} does not lead to {authority}: {refused.verify_message}. Has "
+                "ssl_certificate the whole chain (fullchain.pem)?")
+    return ""

@@ -1,23 +1,26 @@
 """What looks at a machine, one after the other, tell of it: a disk that fills, a clock that was set, a unit that is
-started again and again, a rise of refused changes, a backup that is late."""
+started again and again, changes that fail, a rise of refused ones, a backup that is late, a log that is not written, a
+follower that stays behind it."""
 from __future__ import annotations
 
-import datetime
-import json
 import os
 from typing import Dict, Iterable, List, NamedTuple, Optional, Sequence
 
-from package_index.changes import lines_of, rotated
+from package_index.changes import moment_in
 from package_index.database import COPY, moment_of
+from package_index.followed import LONGEST, Place, is_followed_by, left_at, place_in
+from package_index.log_place import rotated
+from package_index.tallies import DAY, FAILED, HOUR, NO_TOKEN, REFUSED, Tally, within
 
-HOUR, DAY = 3600, 86400
 # a disk is told so long before it is full, by looks that are at least so far apart
 DISK_DAYS, DISK_LOOKS = 7, 6 * HOUR
 CLOCK_SECONDS = 60
 RESTARTS = 3
 BACKUP_HOURS = 26
 # so many in the last hour are a rise, if they are ten times those of an hour before
-REFUSED, TIMES = 100, 10
+MANY, TIMES = 100, 10
+# so long may a log stay behind the database, or a follower behind the log: longer than a request waits in nginx
+BEHIND = 120
 
 
 class Look(NamedTuple):
@@ -84,24 +87,56 @@ def backups(folder: str, units: Iterable[str], now: float, begun: float) -> Iter
             yield f"no backup was made in {each} for {(now - made) / HOUR:.0f} hours: systemctl status 'index-backup*'"
 
 
-def moment_and_status(line: str) -> Optional[tuple[float, int]]:
-    """Of a line of nginx's log of changes; None if it can't be read."""
-    try:
-        said = json.loads(line)
-        return datetime.datetime.fromisoformat(said["at"]).timestamp(), int(said["status"])
-    except (ValueError, KeyError, TypeError):
+def failed(tally: Tally, now: float) -> Iterable[str]:
+    """One is enough: the index answers 500 only if its store failed, and nginx only if it could not do its part."""
+    last, _ = within(tally, now, FAILED)
+    if last:
+        yield (f"{last} change{'s' if last > 1 else ''} failed (500) in the last hour: is the disk of the database "
+               "full, or read-only? df, dmesg, journalctl -u index")
+
+
+def refused(tally: Tally, now: float) -> Iterable[str]:
+    """Those of an hour are compared with the hours before it."""
+    for kind, what in (NO_TOKEN, "401 (no such token)"), (REFUSED, "another refusal"):
+        last, before = within(tally, now, kind)
+        if last >= MANY and last > TIMES * before / 23:
+            yield f"{last} changes were answered by {what} in the last hour: nginx's log of changes"
+
+
+def written(paths: Iterable[str]) -> float:
+    """When the last of these files was written; 0 if none is there."""
+    return max((os.path.getmtime(it) for it in paths if os.path.exists(it)), default=0.0)
+
+
+def unlogged(db: str, log: str, started: float) -> Iterable[str]:
+    """Whether a database was changed after the last line of nginx's log of changes, by an index that runs since
+    `started`. (A start may write too.)"""
+    late = written((db, f"{db}-wal")) - max(written(rotated(log)), started)
+    if started and late > BEHIND:
+        yield (f"{db} was changed {late / 60:.0f} minutes after the last line of {log}: nginx does not write it, or "
+               "changes go past nginx. No such ban or delete leaves nginx's cache, and no restore finds these changes: "
+               "ls -l, nginx -s reopen")
+
+
+def late_by(place: str, log: str, now: float) -> Optional[float]:
+    """How many seconds ago the first line came that index-uncache-follow has left unread; 0 if there is none, and None
+    if it does not run here."""
+    read = place_in(place, Place)
+    left = left_at(log, read) if read else None
+    if not left:
         return None
+    with left:
+        line = left.readline(LONGEST)
+        if not line and is_followed_by(log, left):
+            with open(log, "rb") as newer:
+                line = newer.readline(LONGEST)
+    moment = moment_in(line.decode("utf-8", "replace"))
+    return max(0.0, now - moment.timestamp()) if moment else 0.0
 
 
-def refused(log: str, now: float) -> Iterable[str]:
-    """By the lines of the last day. Those of an hour are compared with the hours before it."""
-    ages: Dict[str, List[float]] = {"401 (no such token)": [], "another refusal": []}
-    for path in rotated(log):
-        if now - os.path.getmtime(path) <= DAY:
-            for found in filter(None, map(moment_and_status, lines_of(path))):
-                if 400 <= found[1] < 500 and 0 <= now - found[0] <= DAY:
-                    ages["401 (no such token)" if found[1] == 401 else "another refusal"].append(now - found[0])
-    for what, since in ages.items():
-        last = sum(it <= HOUR for it in since)
-        if last >= REFUSED and last > TIMES * (len(since) - last) / 23:
-            yield f"{last} changes were answered by {what} in the last hour: {log}"
+def behind(place: str, log: str, now: float) -> Iterable[str]:
+    """Whether index-uncache-follow leaves lines unread: what was deleted or banned is served as long."""
+    late = late_by(place, log, now) or 0.0
+    if late > BEHIND:
+        yield (f"index-uncache-follow is {late / 60:.0f} minutes behind {log}: nginx serves what was deleted or banned "
+               "since. systemctl restart index-uncache-follow")

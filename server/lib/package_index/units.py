@@ -9,25 +9,30 @@ from package_index.commands import run
 from package_index.ends import Refused
 from package_index.two_machines import UNITS, is_shared
 
+NO_UNIT = "none"
 NOT_ENABLED = """These units are not enabled, so they stay off when the machine starts:
    systemctl enable --now {units}
 """
 
 
 class Units:
-    """The units that are stopped for the restore, and are started again however it ends."""
+    """The units that are stopped for the restore, and are started again however it ends. With the one name `none`, as
+    in a container, there are none, and no systemd is asked."""
 
     def __init__(self, names: Sequence[str]) -> None:
-        self.names, self.are_stopped = names, False
+        self.names: Sequence[str] = [] if list(names) == [NO_UNIT] else names
+        self.are_stopped = False
 
     def stop(self) -> None:
         self.are_stopped = True
-        run("systemctl", "stop", *self.names)
+        if self.names:
+            run("systemctl", "stop", *self.names)
 
     def start(self) -> None:
         if self.are_stopped:
             self.are_stopped = False
-            run("systemctl", "start", *self.names)
+            if self.names:
+                run("systemctl", "start", *self.names)
 
 
 def shown(unit: str, name: str) -> str:
