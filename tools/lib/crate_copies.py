@@ -1,7 +1,10 @@
 """Copies of a crate in which a check is asked for some of its functions."""
+from __future__ import annotations
+
 import os
 import re
 import shutil
+from typing import Any, Collection
 
 from edits import written_in
 from texts import read, write
@@ -15,14 +18,14 @@ pub {name}_spec : {{M : Type 1}} → statement M
 UNASKED = "\npub unasked : goal.unasked\nunasked = ?\n"
 
 
-def functions_of(rt, crate):
+def functions_of(rt: Any, crate: Any) -> list[str]:
     """Returns the functions that stand in the crate's files."""
     code = [it for it in rt.rtlib.files_of(crate.folder) if it.endswith(".rt")]
     found = {path for it in code for path, _ in written_in(os.path.relpath(it, f"{crate.folder}/src"), read(it))}
     return sorted(found)
 
 
-def make_copy(rt, crate, texts, to):
+def make_copy(rt: Any, crate: Any, texts: dict[str, str], to: str) -> None:
     """Copies the crate's files, with these texts in place of its own."""
     for part in rt.rtlib.PARTS:
         if os.path.isdir(f"{crate.folder}/{part}"):
@@ -31,7 +34,7 @@ def make_copy(rt, crate, texts, to):
         write(f"{to}/{path}", text)
 
 
-def make_holes(rt, crate, functions, to):
+def make_holes(rt: Any, crate: Any, functions: Collection[str], to: str) -> None:
     """Gives each function of the copied crate but these a hole for a proof."""
     for path in functions_of(rt, crate):
         if path.replace(".", "::") in functions:
@@ -44,7 +47,7 @@ def make_holes(rt, crate, functions, to):
         write(f"{at}/Proof.antt", HOLE.format(crate=crate.name, path=path, name=path.rpartition(".")[2]))
 
 
-def copy_proofs(crate, function, copy, to):
+def copy_proofs(crate: Any, function: str, copy: str, to: str) -> None:
     """Gives a copy of a function the proof files of the function."""
     was, now = (f"{to}/proofs/{it.replace('::', '/')}" for it in (function, copy))
     if function == copy or not os.path.isdir(was):
@@ -55,7 +58,7 @@ def copy_proofs(crate, function, copy, to):
         write(f"{now}/{name}", whole.sub(rf"\1{copy.replace('::', '.')}", read(f"{was}/{name}")))
 
 
-def answer_what_is_not_asked(crate, function, to):
+def answer_what_is_not_asked(crate: Any, function: str, to: str) -> None:
     """Gives a function an answer that the prover refuses. For one without it the prover runs once more, to print
     what to write for each goal that is open."""
     at = f"{to}/proofs/{function.replace('::', '/')}"

@@ -1,4 +1,6 @@
 """What a release says of itself: its commit in the program's `--version`, and the text of its tag."""
+from __future__ import annotations
+
 import re
 import textwrap
 
@@ -12,12 +14,12 @@ class Refused(Exception):
     """What is asked for is no release."""
 
 
-def sections(changelog):
+def sections(changelog: str) -> list[tuple[str, str, str]]:
     """The sections of CHANGELOG.md, newest first: the version, the day, and the text."""
-    return [found.groups() for found in SECTION.finditer(changelog)]
+    return [(found[1], found[2], found[3]) for found in SECTION.finditer(changelog)]
 
 
-def notes(changelog, version):
+def notes(changelog: str, version: str) -> str:
     """What CHANGELOG.md says of a version that is released."""
     for named, day, text in sections(changelog):
         if named == version and day == NOT_YET:
@@ -27,7 +29,7 @@ def notes(changelog, version):
     raise Refused(f"CHANGELOG.md has no section for {version}")
 
 
-def tag_text(changelog, version):
+def tag_text(changelog: str, version: str) -> str:
     """The text of the tag: what CHANGELOG.md says, with the words of links alone, in lines of 72 columns."""
     plain = re.sub(r"\[([^]]*)\]\([^)]*\)", r"\1", notes(changelog, version))
     plain = re.sub(r"^#+ ", "", plain, flags=re.M)      # git takes a line with # for a comment
@@ -37,7 +39,7 @@ def tag_text(changelog, version):
     return f"index {version}\n\n" + "\n".join(filled) + "\n"
 
 
-def with_commit(source, version, commit):
+def with_commit(source: str, version: str, commit: str) -> tuple[str, str]:
     """The source of the command line with the commit in what `--version` prints, and that text."""
     found = CONSTANT.findall(source)
     if len(found) != 1 or found[0][1] != version:

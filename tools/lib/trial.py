@@ -2,6 +2,7 @@
 from __future__ import annotations
 
 import argparse
+import io
 import os
 import signal
 import sys
@@ -12,13 +13,17 @@ from top import PROGRAM
 
 def parser_of(text: str, has_program: bool = True) -> argparse.ArgumentParser:
     """The options of a command, of which `text` says what it does. What its locale lacks is printed as an escape."""
-    if sys.stdout:
+    if isinstance(sys.stdout, io.TextIOWrapper):
         sys.stdout.reconfigure(errors="backslashreplace")
     parser = argparse.ArgumentParser(description=text, formatter_class=argparse.RawDescriptionHelpFormatter)
     if has_program:
-        parser.add_argument("--program", metavar="PATH", type=os.path.abspath, default=PROGRAM,
+        parser.add_argument("--program", metavar="PATH", type=absolute, default=PROGRAM,
                             help="the built program; crates/index/out/index if left out")
     return parser
+
+
+def absolute(path: str) -> str:
+    return os.path.abspath(path)
 
 
 def whole_number(word: str) -> int:

@@ -1,5 +1,7 @@
 """Writes what the gate took into PROOF-COSTS: `python3 costs.py` reads the lines that `.ci/run` prints at its
 end, of each part by the clock and of the processors."""
+from __future__ import annotations
+
 import datetime
 import os
 import re
@@ -16,7 +18,7 @@ TABLE = re.compile(r"(<!-- written by \.ci/run --write -->\n).*?\n\n", re.S)
 PART = re.compile(r"(\S+) +([\d.]+) min, +([\d.]+) of processors")
 
 
-def table_of(lines):
+def table_of(lines: str) -> str:
     """The table of these parts; the tools that run one after the other beside the wrong bodies are one row."""
     parts = [(name, float(clock), float(taken)) for name, clock, taken in PART.findall(lines)]
     if not parts:
@@ -31,7 +33,7 @@ def table_of(lines):
     return "\n".join([*head, *(f"| {name} | {clock:.1f} | {taken:.1f} |" for name, clock, taken in rows)])
 
 
-def main():
+def main() -> None:
     page = read(PAGE)
     if not TABLE.search(page):
         raise SystemExit(f"costs: {PAGE} has no place for the table")

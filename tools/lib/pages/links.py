@@ -1,7 +1,10 @@
 """The links of pages, and whether each leads to a file of the repository and to a heading there."""
+from __future__ import annotations
+
 import os
 import re
 from collections import Counter
+from typing import Iterator
 
 from pages.files import read
 from top import TOP
@@ -12,14 +15,15 @@ LINK = re.compile(r"\]\(([^()\s]*(?:\([^()\s]*\)[^()\s]*)*)\)")
 HEADING = re.compile(r"^#{1,6} +(.*?) *#*$", re.M)
 
 
-def links_of(text):
+def links_of(text: str) -> list[str]:
     """Where the links of a page lead. What stands in code is no link."""
     return LINK.findall(CODE.sub("", FENCED.sub("", text)))
 
 
-def anchors_of(text):
+def anchors_of(text: str) -> set[str]:
     """The anchors of the headings of a page, as GitHub makes them: a heading that comes again gets a number."""
-    found, counts = set(), Counter()
+    found: set[str] = set()
+    counts: Counter[str] = Counter()
     for heading in HEADING.findall(FENCED.sub("", text)):
         shown = re.sub(r"\[([^]]*)\]\([^)]*\)", r"\1", heading).replace("`", "")
         anchor = re.sub(r"[^\w\- ]", "", shown.lower()).replace(" ", "-")
@@ -28,7 +32,7 @@ def anchors_of(text):
     return found
 
 
-def broken_links(page):
+def broken_links(page: str) -> Iterator[str]:
     """The links of a page that lead nowhere. Those to other sites are not looked at."""
     for link in links_of(read(page)):
         if re.match(r"[a-z]+:", link):

@@ -1,6 +1,9 @@
 """The names of code in the pages about it, and whether each stands in the sources."""
+from __future__ import annotations
+
 import os
 import re
+from typing import Iterator
 
 from pages.files import pages, read
 from pages.links import FENCED
@@ -13,9 +16,9 @@ WRITTEN = re.compile(r"`([\w:./-]+)`")
 NAME = re.compile(r"\w_\w|::|[a-z][A-Z]|\.(?:rt|antt|py)$")
 
 
-def sources():
+def sources() -> set[str]:
     """The words of the sources, and the names of their files and folders."""
-    found = set()
+    found: set[str] = set()
     for path in (it for room in ROOMS for it in files_below(room)):
         found.update(path.split("/"), [os.path.splitext(os.path.basename(path))[0]])
         if not path.endswith((".md", ".png", ".svg", ".pyc")):
@@ -24,7 +27,7 @@ def sources():
     return found
 
 
-def lacks(page, known):
+def lacks(page: str, known: set[str]) -> Iterator[str]:
     """The names in a page that stand in no source."""
     for written in sorted(set(WRITTEN.findall(FENCED.sub("", read(page))))):
         if ".." not in written and NAME.search(written):
@@ -32,7 +35,7 @@ def lacks(page, known):
                 yield written
 
 
-def lost_names():
+def lost_names() -> list[tuple[str, list[str]]]:
     """The pages about the code, each with its names that stand nowhere."""
     known = sources()
     return [(page, list(lacks(page, known))) for page in pages() if PAGES.match(page)]

@@ -1,7 +1,10 @@
 """The plot of the rates in docs/operators/PERFORMANCE.md and in the last run of bench/bench: docs/operators/rates.svg,
 a bar for each."""
+from __future__ import annotations
+
 import re
 from html import escape
+from typing import Iterator
 
 from pages.files import read
 
@@ -13,16 +16,16 @@ NUMBER = re.compile(r"\d[\d,]*(?:\.\d+)?")
 WIDTH, LEFT, RIGHT, HEAD, STEP, BAR_HEIGHT = 720, 170, 90, 30, 22, 14
 
 
-def cells(line):
+def cells(line: str) -> list[str]:
     return [cell.strip().replace("`", "") for cell in line.strip().strip("|").split("|")]
 
 
-def measured():
+def measured() -> str:
     """The two pages that have rates, one after the other."""
     return read(PAGE) + read(LAST_RUN)
 
 
-def rates_of(page):
+def rates_of(page: str) -> Iterator[tuple[int, str, list[tuple[str, float]]]]:
     """Each row of bars: where it stands, what was asked for, and the rate of each server."""
     for found in TABLE.finditer(page):
         servers = cells(found[1])
@@ -35,10 +38,11 @@ def rates_of(page):
         yield found.start(), what, [(it[1], float(it[2].replace(",", ""))) for it in BAR.finditer(found[3])]
 
 
-def drawn(page):
+def drawn(page: str) -> str:
     """The plot, as SVG."""
     rows = [(what, rates) for _, what, rates in sorted(rates_of(page), key=lambda it: it[0]) if rates]
-    lines, y = [], 0
+    lines: list[str] = []
+    y = 0
     for what, rates in rows:
         y += HEAD
         lines.append(f'<text x="10" y="{y - 8}" font-weight="bold">{escape(what)}</text>')

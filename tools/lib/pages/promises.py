@@ -1,14 +1,20 @@
 """The calls and clauses that CLAUSES names in its tables, and whether the contracts of the code have them; the
-definitions that it names in its tables of steps, and whether they have their lines."""
+definitions that RUNS names in its tables of steps, and whether they have their lines."""
+from __future__ import annotations
+
 import glob
 import os
 import re
+from typing import Dict, Iterator, List, Tuple
 
 from contracts import sources
 from pages.files import read
 from top import TOP
 
-PAGE, SHORT = "docs/proofs/CLAUSES.md", "docs/proofs/PROMISES.md"
+# by the name of a call, the text of each contract, and of its file
+Contracts = Dict[str, List[Tuple[str, str]]]
+
+PAGE, SHORT, RUNS = "docs/proofs/CLAUSES.md", "docs/proofs/PROMISES.md", "docs/proofs/RUNS.md"
 PROMISES = re.compile(r"^\| Promise \| Call \| Clause \|(?: Wrong body \| Test \|)?\n\|.*\n((?:\|.*\n)*)", re.M)
 STEPS = re.compile(r"^\| Step \| Definition \| Lines \|\n\|.*\n((?:\|.*\n)*)", re.M)
 # a definition up to the next line that is empty
@@ -18,17 +24,17 @@ FUNCTION = re.compile(r"^ *(?:pub(?:\(crate\))? )?fn (\w+).*?(?:\{|;|\{\})$", re
 TYPE = re.compile(r"^(?:pub )?(?:struct|trait) (\w+).*?^\}", re.S | re.M)
 
 
-def contracts():
+def contracts() -> Contracts:
     """The functions of the crates up to their bodies, their traits and structs, by name, each with the text of its
     file."""
-    found = {}
+    found: Contracts = {}
     for path, text in sources(TOP):
         for match in (*FUNCTION.finditer(text), *TYPE.finditer(text)):
             found.setdefault(match[1], []).append((match[0], f"//{os.path.basename(path)}\n{text}"))
     return found
 
 
-def lacks(call, clauses, found):
+def lacks(call: str, clauses: list[str], found: Contracts) -> bool:
     """Whether no contract of a call, as Desk::apply or laws::one_message, has all these words."""
     owner, _, name = call.rpartition("::")
     home = re.compile(rf"^//{owner}\.rt$|\b(impl|trait)\b[^{{\n]*\b{owner}\b" if owner else "", re.M)
@@ -36,7 +42,7 @@ def lacks(call, clauses, found):
     return not any(all(re.search(rf"\b{clause}\b", text) for clause in clauses) for text in texts)
 
 
-def promises():
+def promises() -> Iterator[tuple[str, list[str]]]:
     """The calls in the tables of both pages, each with the clauses that stand beside it."""
     for table in PROMISES.findall(read(SHORT)) + PROMISES.findall(read(PAGE)):
         for row in table.splitlines():
@@ -44,23 +50,24 @@ def promises():
             yield from ((call, clauses) for call in calls)
 
 
-def definitions():
+def definitions() -> dict[str, list[str]]:
     """The definitions in the specs of the crates, by name, each with its text."""
-    found = {}
+    found: dict[str, list[str]] = {}
     for path in glob.glob("crates/*/specs/**/*.antt", root_dir=TOP, recursive=True):
         for match in DEFINITION.finditer(read(path)):
             found.setdefault(match[1], []).append(match[0])
     return found
 
 
-def steps():
-    """The definitions in the tables of steps of the page, each row's with the lines that stand beside them."""
-    for table in STEPS.findall(read(PAGE)):
+def steps() -> Iterator[tuple[list[str], list[str]]]:
+    """The definitions in the tables of steps of the runs, each row's with the lines that stand beside them."""
+    for table in STEPS.findall(read(RUNS)):
         for row in table.splitlines():
-            yield tuple(re.findall(r"`([^`]+)`", cell) for cell in row.split("|")[2:4])
+            names, lines = (re.findall(r"`([^`]+)`", cell) for cell in row.split("|")[2:4])
+            yield names, lines
 
 
-def has_lines(names, lines, found):
+def has_lines(names: list[str], lines: list[str], found: dict[str, list[str]]) -> bool:
     """Whether each name is a definition, and one of them has all these lines."""
     texts = [text for name in names for text in found.get(name, [])]
     has_all = any(all(f"\n  pub {line} :" in text for line in lines) for text in texts)

@@ -1,60 +1,58 @@
 """The rooms of docs: which pages stand where, whom each page is for, and how long pages and cells may be."""
+from __future__ import annotations
+
 import re
+from typing import Iterator
 
 from pages.files import pages, read
-from pages.links import FENCED
+from trial import Trial
 
 ROOMS = {
-    "users": {"USING", "OWNING", "NAMES"},
+    "users": {"USING", "OWNING", "MOVING", "NAMES"},
     "office": {"OFFICE", "RETENTION"},
-    "operators": {"INSTALL", "OPERATING", "RECOVERY", "SCALING", "TWO-MACHINES", "PERFORMANCE"},
+    "operators": {"INSTALL", "CONTAINER", "OPERATING", "RECOVERY", "SCALING", "TWO-MACHINES", "PERFORMANCE"},
     "reference": {"REQUESTS", "HTTP", "FORMATS", "PAGES", "TABLES"},
-    "proofs": {"PROMISES", "CLAUSES", "HISTORY", "WORDS"},
+    "proofs": {"PROMISES", "THEOREM", "CLAUSES", "RUNS", "HISTORY", "WORDS"},
     "developers": {"ARCHITECTURE", "CHANGING", "PROOF-COSTS", "DECISIONS", "DECISIONS-SQLITE"},
 }
-ADDRESSED = ("users", "office", "operators")
 FIRST = "docs/README.md"
-MOST_WORDS, MOST_OF_USERS, MOST_OF_CELL, LEAST_YOU = 29_000, 4_500, 60, 4
+MOST_OF_PAGE, MOST_OF_CELL = 4_600, 60
+# pages that are to be read at one sitting
+SHORT = {"docs/proofs/THEOREM.md": 1_000}
 
 
-def in_docs():
+def in_docs() -> list[str]:
     return [it for it in pages() if it.startswith("docs/")]
 
 
-def named():
+def named() -> set[str]:
     """The paths that the pages of docs have by their rooms."""
     return {FIRST} | {f"docs/{room}/{page}.md" for room, inside in ROOMS.items() for page in inside}
 
 
-def words_of(text):
+def words_of(text: str) -> int:
     return len(text.split())
 
 
-def first_paragraph(text):
+def first_paragraph(text: str) -> str:
     """What stands between the first heading and the next empty line."""
     found = re.match(r"# .+\n\n((?:.+\n)+)", text)
     return found[1] if found else ""
 
 
-def says_for_whom(text):
+def says_for_whom(text: str) -> bool:
     """Whether a page begins by saying for whom it is."""
     return bool(re.match(r"This page is for (you if|everybody)", first_paragraph(text)))
 
 
-def long_cells(text):
+def long_cells(text: str) -> Iterator[int]:
     """The cells of the tables of a page that have too many words, by their lines."""
     for at, line in enumerate(text.splitlines(), 1):
         if line.startswith("|"):
             yield from (at for cell in line.strip("|").split("|") if words_of(cell) > MOST_OF_CELL)
 
 
-def you_in(text):
-    """How often a page says 'you' to its reader, in 1,000 words outside its blocks."""
-    prose = FENCED.sub("", text)
-    return 1_000 * len(re.findall(r"\b(?:you|your|yours|yourself)\b", prose, re.I)) / max(words_of(prose), 1)
-
-
-def check_rooms(trial):
+def check_rooms(trial: Trial) -> None:
     found = in_docs()
     differ = sorted(named() ^ set(found))
     trial.check("docs has the pages of its rooms", not differ, differ)
@@ -64,8 +62,6 @@ def check_rooms(trial):
         trial.check(f"{page} says first for whom it is", says_for_whom(read(page)), first_paragraph(read(page))[:80])
         cells = list(long_cells(read(page)))
         trial.check(f"{page}: no cell above {MOST_OF_CELL} words", not cells, f"lines {cells}")
-    for page in (it for it in found if it.split("/")[1] in ADDRESSED):
-        trial.check(f"{page} says 'you'", you_in(read(page)) >= LEAST_YOU, f"{you_in(read(page)):.1f} in 1,000 words")
-    for room, most in (("docs/", MOST_WORDS), ("docs/users/", MOST_OF_USERS)):
-        total = sum(words_of(read(page)) for page in found if page.startswith(room))
-        trial.check(f"{room} has at most {most:,} words", total <= most, f"it has {total:,}")
+        words = words_of(read(page))
+        most = SHORT.get(page, MOST_OF_PAGE)
+        trial.check(f"{page} has at most {most:,} words", words <= most, f"it has {words:,}: make two pages of it")

@@ -1,10 +1,16 @@
 """The lines of use with which the README of each crate begins, and whether each call in them is one of the crates, with
 as many arguments, and each variant one of its type. They are not compiled."""
+from __future__ import annotations
+
 import re
+from typing import Iterator, List, Tuple
 
 from contracts import sources
 from pages.files import read
 from top import TOP
+
+# its owner, its name, and its parameters
+Function = Tuple[str, str, List[str]]
 
 LONGEST = 6
 BLOCK = re.compile(r"\A# \S+\n\n.+\n\n```(rust|sh)\n(.*?)^```$", re.S | re.M)
@@ -17,15 +23,15 @@ STRING = re.compile(r'b?r?#"[^\n]*?"#|b?"(?:\\.|[^"\\\n])*"')
 OTHERS = {"BufReader::new", "Vec::new", "io::writer", ".stdin", ".as_slice", "check", "refuse", "reply", "run"}
 
 
-def crates():
+def crates() -> dict[str, str]:
     """The crates, by name, each with what its sources say."""
-    found = {}
+    found: dict[str, list[str]] = {}
     for path, text in sources(TOP):
         found.setdefault(path.split("/")[1], []).append(text)
     return {name: "\n".join(texts) for name, texts in found.items()}
 
 
-def parts(text, at):
+def parts(text: str, at: int) -> list[str]:
     """The parts between commas of a list in brackets that begins at this place."""
     found, depth, closing = [""], 0, {"(": ")", "[": "]", "{": "}", "<": ">"}
     for character in text[at:].replace("->", "  ").replace("=>", "  "):
@@ -39,7 +45,7 @@ def parts(text, at):
     return [part for part in (it.lstrip("([{<").strip() for it in found) if part]
 
 
-def functions(text):
+def functions(text: str) -> Iterator[Function]:
     """The functions of some sources, each with its owner and its parameters."""
     owners = [(match.start(), match[1]) for match in OWNER.finditer(text)]
     for match in FUNCTION.finditer(text):
@@ -47,7 +53,7 @@ def functions(text):
         yield above[-1] if above else "", match[1], parts(text, match.end() - 1)
 
 
-def takes(count, owner, is_method, function):
+def takes(count: int, owner: str, is_method: bool, function: Function) -> bool:
     """Whether a function of an owner takes so many arguments, as it is called."""
     of, _, parameters = function
     has_self = bool(parameters) and bool(re.fullmatch(r"(&(mut )?)?(mut )?self", parameters[0]))
@@ -56,7 +62,7 @@ def takes(count, owner, is_method, function):
     return of == owner and len(parameters) == count
 
 
-def lacks_of(code, known, own):
+def lacks_of(code: str, known: list[Function], own: list[Function]) -> Iterator[str]:
     """What is wrong with the calls in some code, by the functions of all crates and those of its own."""
     is_own = False
     for match in CALL.finditer(code):
@@ -72,7 +78,7 @@ def lacks_of(code, known, own):
     yield from () if is_own else ["nothing of this crate"]
 
 
-def lacks_variants(block, text):
+def lacks_variants(block: str, text: str) -> Iterator[str]:
     """The variants in lines of Rust that no type of these sources has."""
     for owner, name in VARIANT.findall(re.sub(r'"[^"\n]*"', "", block)):
         found = re.search(rf"\benum {owner}\b[^{{]*\{{(.*?)^\}}", text, re.S | re.M)
@@ -80,7 +86,7 @@ def lacks_variants(block, text):
             yield f"no variant {owner}::{name}"
 
 
-def uses():
+def uses() -> Iterator[tuple[str, list[str]]]:
     """The README of each crate, with what is wrong with its lines of use."""
     texts = crates()
     all_known, all_text = [it for text in texts.values() for it in functions(text)], "\n".join(texts.values())
