@@ -7,12 +7,14 @@ import sys
 import tempfile
 
 import pytest
+import skips
 from hypothesis import HealthCheck, settings
 
 sys.dont_write_bytecode = True
-from support import durations
+from support import durations, needed
 from support.options import add_options, share_of
 from support.places import is_program
+from support.set_up import is_gate, look_in_sbin
 
 MEMORY = "/dev/shm"
 # of what is random, so many rounds are not slow
@@ -28,6 +30,7 @@ def pytest_addoption(parser):
 
 @pytest.hookimpl(tryfirst=True)
 def pytest_configure(config):
+    look_in_sbin()
     # as they are for what is started in the background or by nohup: what tests start could never be interrupted
     if signal.getsignal(signal.SIGINT) == signal.SIG_IGN:
         signal.signal(signal.SIGINT, signal.default_int_handler)
@@ -40,7 +43,6 @@ def pytest_configure(config):
     config.option.hypothesis_seed = config.option.hypothesis_seed or str(config.seed)
     # and reads the command line again, which does not have what is set below for the controller
     config.option.loadgroup = given.get("dist") == "loadgroup"
-    config.looked, config.ended = 0, {"passed": 0, "failed": 0, "skipped": 0}
 
 
 @pytest.hookimpl(tryfirst=True)
@@ -96,7 +98,8 @@ def pytest_collection_modifyitems(config, items):
     # a worker of xdist can only let tests fail
     if needs and not config.option.collectonly and not hasattr(config, "workerinput"):
         if not is_program(config.option.program):
-            raise pytest.UsageError(f"{len(needs)} tests need a program: {no_program(config)}; `-k unit` asks for none")
+            raise pytest.UsageError(f"{len(needs)} tests need a program: {no_program(config)}; `-k test_unit_` asks "
+                                    "for none")
 
 
 def no_program(config):
@@ -170,24 +173,52 @@ def looked(request):
     request.node.user_properties.append(("looked", look.count))
 
 
+def refuse_skip(report):
+    """In the gate, has a test that was skipped fail if tests/skips.txt does not have why."""
+    if is_gate() and report.skipped and not hasattr(report, "wasxfail"):
+        reason = needed.reason_of(report.longrepr)
+        if not skips.may_be_skipped(report.longrepr[0], reason):
+            report.outcome = "failed"
+            report.longrepr = f"{report.longrepr[0]}: skipped, and not for a reason in {skips.SKIPS}: {reason}"
+
+
+@pytest.hookimpl(hookwrapper=True)
+def pytest_runtest_makereport():
+    made = yield
+    refuse_skip(made.get_result())
+
+
+@pytest.hookimpl(hookwrapper=True)
+def pytest_make_collect_report():
+    made = yield
+    refuse_skip(made.get_result())
+
+
 def pytest_runtest_logreport(report):
     """Of the controller where there are workers: a property comes with the report of each test."""
     name = durations.name_of(report.nodeid)
     SECONDS[name] = SECONDS.get(name, 0.0) + report.duration
     if report.when == "call" or report.outcome != "passed":
         COUNTS[report.outcome] = COUNTS.get(report.outcome, 0) + 1
+    if report.skipped and not hasattr(report, "wasxfail"):
+        reason = needed.reason_of(report.longrepr)
+        REASONS[reason] = REASONS.get(reason, 0) + 1
     if report.when == "teardown":
         # a test that counts nothing looked at one thing
         COUNTS["looked"] += dict(report.user_properties).get("looked", 1)
 
 
 COUNTS = {"looked": 0}
+# how many tests were left out for each reason
+REASONS: dict = {}
 SECONDS: dict = {}
 
 
 def pytest_terminal_summary(terminalreporter, config):
     if not config.option.collectonly:
         terminalreporter.write_line(f"{COUNTS['looked']} things were looked at")
+    if REASONS and not hasattr(config, "workerinput"):
+        terminalreporter.write_line(needed.left_out(REASONS))
     if SECONDS and not hasattr(config, "workerinput"):
         durations.write(durations.TESTS, SECONDS)
 
