@@ -21,10 +21,8 @@ MISSED = f"{TOP}/tests/out/missed-breaks.txt"
 
 
 def by_name():
-    """Each break as a parameter, by its room and its name; those of the old form are skipped."""
-    for it in BREAKS:
-        marks = () if it.is_moved else pytest.mark.skip("not moved yet")
-        yield pytest.param(it, id=f"{it.room}-{it.name}", marks=marks)
+    """Each break as a parameter, by its room and its name."""
+    return [pytest.param(it, id=f"{it.room}-{it.name}") for it in BREAKS]
 
 
 @pytest.mark.parametrize("line, name", [
@@ -83,8 +81,6 @@ def without_a_break():
 def test_each_test_stands_at_a_break(file):
     """So each of them has failed once. Of those in without_a_break.txt nobody has seen it: the list may only become
     shorter."""
-    if [it for it in BREAKS if not it.is_moved and it.room == file.split("/")[1]]:
-        pytest.skip("breaks of this room are not moved yet")
     seen = {name.partition("[")[0] for it in BREAKS for name in it.caught}
     unseen = {it for it in names_of(file) if it not in seen and it.rpartition("::")[0] not in seen}
     assert not unseen - {*without_a_break()}

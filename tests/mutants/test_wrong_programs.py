@@ -30,14 +30,14 @@ CAUGHT_BY = {
     "faults_interrupted_write_ends_the_output": f"{FAULTS}::test_apply_ends_where_its_input_or_output_fails[write]",
     "kills_init_removes_what_is_there": f"{KILLS}::test_init_leaves_nothing_or_an_index",
     "kills_report_removes_the_log": f"{KILLS}::test_reading_loses_nothing",
-    "pip_clock_is_a_minute_fast": f"{GONE}::test_a_case_has_the_moment_of_the_clock",
-    "pip_clock_is_read_once": f"{GONE}::test_a_case_has_the_moment_of_the_clock",
-    "pip_flush_that_failed_is_not_told":
-        f"{GONE}::test_a_client_that_is_gone_before_its_reply_is_told_by_one_line_and_its_request_stands",
     "messages_accepted_connection_is_forgotten": ORDER,
     "messages_fourth_accept_header_is_want_of_memory": f"{MESSAGES}::test_the_type_is_chosen_by_all_accept_headers",
     "messages_reply_ends_in_a_byte_more": f"{MESSAGES}::test_answered_before_the_client_ends_its_side",
     "messages_reply_waits_for_the_end_of_the_input": f"{MESSAGES}::test_answered_before_the_client_ends_its_side",
+    "pip_clock_is_a_minute_fast": f"{GONE}::test_a_case_has_the_moment_of_the_clock",
+    "pip_clock_is_read_once": f"{GONE}::test_a_case_has_the_moment_of_the_clock",
+    "pip_flush_that_failed_is_not_told":
+        f"{GONE}::test_a_client_that_is_gone_before_its_reply_is_told_by_one_line_and_its_request_stands",
     "program_accepting_is_tried_for_a_millisecond":
         f"{SHUT}::test_a_connection_that_cannot_be_accepted_is_tried_again_and_no_client_sees_it",
     "program_apply_reads_sixteen_mebibytes": f"{SIZES}::test_lines_in_memory[many-bytes]",
@@ -57,8 +57,7 @@ CAUGHT_BY = {
         f"{SHUT}::test_a_sync_that_fails_once_ends_serve_and_what_it_acknowledged_is_there",
     "program_spoilt_release_is_want_of_memory":
         f"{SHUT}::test_an_invalid_row_is_a_fault_of_the_store_and_not_of_memory",
-    "program_want_of_memory_is_not_told":
-        f"{MEMORY}::test_a_message_gets_its_reply_or_a_fault_that_changed_nothing",
+    "program_want_of_memory_is_not_told": f"{MEMORY}::test_a_message_gets_its_reply_or_a_fault_that_changed_nothing",
     "program_words_without_memory_are_told_as_store": f"{MEMORY}::test_init_makes_an_index_or_none[share-0]",
     "sizes_first_file_alone_is_found_again": f"{CACHE}::test_files_are_found_again_and_the_oldest_goes_first",
     "sizes_json_page_is_never_found_again": f"{CACHE}::test_a_page_is_found_again",
@@ -69,11 +68,10 @@ CAUGHT_BY = {
     "sizes_nothing_is_kept": f"{CACHE}::test_files_are_found_again_and_the_oldest_goes_first",
     "sizes_owner_513_is_want_of_memory": f"{SIZES}::test_1100_owners",
     "sizes_root_page_is_never_found_again": f"{CACHE}::test_a_page_is_found_again",
-    "sizes_root_page_of_eight_mebibytes_is_want_of_memory":
-        f"{SIZES}::test_a_root_page_of_above_eight_mebibytes[HTML]",
-    "sizes_text_keeps_the_room_that_it_grew_into": f"{CACHE}::test_a_long_page_is_found_again",
+    "sizes_root_page_of_eight_mebibytes_is_want_of_memory": f"{SIZES}::test_a_root_page_of_above_eight_mebibytes[HTML]",
     "sizes_ten_times_as_much_is_kept_by_default":
         f"{CACHE}::test_what_is_kept_takes_as_much_memory_as_it_may_and_no_more[by-default]",
+    "sizes_text_keeps_the_room_that_it_grew_into": f"{CACHE}::test_a_long_page_is_found_again",
 }
 # what clauses refuse by now: here they only try the tests
 REFUSED = ("program_check_prints_at_most_nine", "sizes_first_file_alone_is_found_again",
