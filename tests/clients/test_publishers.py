@@ -2,6 +2,7 @@
 import os
 import shutil
 import time
+import xmlrpc.client
 import zipfile
 
 import pytest
@@ -100,19 +101,34 @@ def test_indexctl_is_served_as_it_is_built(person):
     person.looks(headers["Content-Type"] == "application/zip", "/indexctl", headers["Content-Type"], "a zip archive")
 
 
-ELSEWHERE = {"/simple/": (405, "BadMethod"), "/": (405, "BadMethod"), "/requests": (400, "BadBody")}
+# what twine prints by itself, and what only with --verbose
+ELSEWHERE = {"/simple/": ([], ["HTTPError: 405 ", "uploads go to /legacy/ of this address"]),
+             "/": ([], ["HTTPError: 405 ", "uploads go to /legacy/ of this address"]),
+             "/requests": (["--verbose"], ["HTTPError: 400 ", '"BadBody"', "indexctl upload"])}
 
 
 @pytest.mark.parametrize("path", ELSEWHERE)
 @pytest.mark.follows(client="twine")
+@pytest.mark.told("twine gets 404")
 def test_twine_that_uploads_to_another_address_is_told_where_to(person, path):
-    status, name = ELSEWHERE[path]
+    more, said = ELSEWHERE[path]
     make_dist(person, "2.6")
-    words = ["twine", "upload", "--verbose", "--username", "__token__", "--password", ANN, "--repository-url",
+    words = ["twine", "upload", *more, "--username", "__token__", "--password", ANN, "--repository-url",
              f"{person.url}{path}", "dist/eggs-2.6-py3-none-any.whl"]
-    person.fails(person.run(words), f"HTTPError: {status} ", f'"{name}"', "indexctl upload", "/legacy/")
+    person.fails(person.run(words), *said, "/legacy/")
     found = person.gate.ask("GET", "/files/eggs/eggs-2.6-py3-none-any.whl")[0]
     person.looks(found == 404, "the file", found, "nothing was uploaded")
+
+
+@pytest.mark.parametrize("path", ["/", "/simple/", "/pypi", "/pypi/"])
+def test_pip_search_is_told_where_to_look(person, path):
+    """By XML-RPC, as pip of Python 3.11 sends it."""
+    words = ["python3", "-m", "pip", "search", "--index", f"{person.url}{path}", "frob"]
+    said = "XMLRPC request failed [code: 1]", "This index has no pip search", "/simple/ or type"
+    person.fails(person.run(words), *said)
+    body = person.gate.ask("POST", path, "<methodCall/>", Content_Type="text/xml")[2]
+    with pytest.raises(xmlrpc.client.Fault, match="indexctl search WORD"):
+        xmlrpc.client.loads(body)
 
 
 @pytest.mark.parametrize("path", ["/simple/", "/"])

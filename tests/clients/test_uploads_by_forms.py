@@ -102,7 +102,8 @@ REFUSED_BY_THE_INDEX = {
     "a malformed digest": (WHEEL.format("1.6"), DATA, "office", {"sha256_digest": "12"}, 400, ["BadDigest"]),
     "a token of nobody": (WHEEL.format("1.6"), DATA, "x", {}, 401,
                           ["BadToken", "the password has to be the token"]),
-    "a user who is not an owner": (WHEEL.format("1.6"), DATA, "abc", {}, 403, ["NotOwner", "add_owner"]),
+    "a user who is not an owner": (WHEEL.format("1.6"), DATA, "abc", {}, 403,
+                                   ["NotOwner", "do this: office. Ask", "add_owner"]),
     "a name that nobody holds": ("spam-1.0.tar.gz", DATA, "office", {}, 404, ["NoProject", "claim it first"]),
     "Requires-Python of 600 bytes": (WHEEL.format("1.6"), DATA, "office", {"requires_python": ">" + "3" * 600}, 400,
                                      ["BadText"]),
@@ -120,6 +121,8 @@ ALONE = "uploads of files alone"
 REFUSED_BY_THE_SERVICE = {
     "a byte above 16 MiB": ("frob-1.2.tar.gz", {"data": bytes(LARGEST + 1)}, 413, ["16,777,216 bytes"]),
     "a .zip": ("frob-5.0.zip", {"name": "frob"}, 400, [".whl and .tar.gz alone"]),
+    "a version with a hyphen": ("frob-1.0-beta1.tar.gz", {"name": "frob"}, 400,
+                                ["the version has a hyphen", "1.0b1 for 1.0-beta1"]),
     "an egg": ("frob-5.0.egg", {"name": "frob"}, 400, [".whl and .tar.gz alone"]),
     "an attestation": (REFUSED, {"attestations": "[]"}, 400, ["can't keep attestations"]),
     "another action": (REFUSED, {"action": "submit"}, 400, [ALONE]),

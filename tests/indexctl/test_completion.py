@@ -25,7 +25,7 @@ sys.exit(main())
 """
 BY_SCRIPT = {"nothing": ([""], {"token", "user", "case", "upload", "who", "--version"}), "use": (["use"], {"user"}),
              "user": (["user", ""], {"add", "rotate", "lock", "leave"}),
-             "means": (["case", "attempt", "x", "pa"], {"pages"}),
+             "means": (["case", "attempt", "x", "y", "pa"], {"pages"}),
              "option": (["case", "transfer", "x", "--q"], {"--quiet"}),
              "behind_a_value": (["case", "list", "--profile", "x", "--j"], {"--json"})}
 FROB = ["frob-1.0.tar.gz", "frob-1.10-py3-none-any.whl", "frob-1.9-py3-none-any.whl"]
@@ -40,7 +40,9 @@ BY_INDEX = {"names": (["who", "fro"], ["frob", "frost-bite"]), "a_name": (["file
             "files_of_many": (["file", "delete", "b"], [f"{it}-" for it in SHORT]),
             "releases": (["release", "yank", "frob", ""], ["1.10", "1.9", "1.0"]),
             "a_release": (["release", "unyank", "frob", "1.1"], ["1.10"]),
-            "nothing_behind": (["release", "yank", "frob", "1.0", ""], []),
+            "releases_behind_one": (["release", "delete", "frob", "1.0", ""], ["1.10", "1.9"]),
+            "nothing_behind": (["status", "frob", ""], []),
+            "an_alias": (["info", "fro"], ["frob", "frost-bite"]),
             "of_a_profile": (["who", "--profile", "other", "fro"], []),
             "no_value": (["who", "--again", "fro"], [])}
 

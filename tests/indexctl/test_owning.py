@@ -2,13 +2,17 @@
 and those that stand between the blocks of docs/users/USING.md."""
 from __future__ import annotations
 
+import datetime
 import os
 import re
 import shlex
+import shutil
+import subprocess
+import sys
 
 import pytest
 from support.clients.page import read_recipes
-from support.indexctl.control import Control, assert_ends, digest, put
+from support.indexctl.control import Control, assert_ends, digest, environment, put
 from support.packages import make_source
 from support.places import TOP
 from support.serving import Index
@@ -20,15 +24,25 @@ CASE = ("case", "open", "frob", "--kind", "reuse", "--contact", "c", "--work", "
 YANK = 'release yank frob 1.0 --reason "loses data"'
 BEFORE = {YANK: ("cibuild", ("owner", "add", "ann", "frob")), "case answer frob": ("bob", CASE)}
 SAID = {
-    "token check": "", "token new": "digest", "name claim frob": "frob", "upload dist/": "1 of 1 files are there",
+    "token check": "", "doctor": "the index answers", "token new": "digest", "name claim frob": "frob",
+    "upload dist/": "1 of 1 files are there",
     "status frob": "frob-1.0.tar.gz", "quota show frob": "1.0 GiB", "owner add cibuild frob": "",
     "owner remove ann frob": "", YANK: "", "files frob": "frob-1.0.tar.gz",
+    "release delete frob --keep 10 --matching '*.dev*'": "There is nothing to delete.",
     "file delete frob-1.0.tar.gz": "index-uncache", "case answer frob": "", "name relinquish frob": "",
 }
 ASKS = "name relinquish", "file delete"
+TIMER, SEARCH = "A timer for nightly builds", "search WORD"
 # of USING, and of these what needs no token
 SAID_OF_USING = {"name claim frob": "claim frob", "status frob": "owners  ann", "files frob": "frob-1.0.tar.gz",
-                 "releases frob": "1.0"}
+                 "releases frob": "1.0", SEARCH: ""}
+
+
+def build(folder: str) -> str:
+    """The one file of indexctl."""
+    made = f"{folder}/one-file"
+    subprocess.run([sys.executable, f"{TOP}/indexctl/build.py", made], check=True, timeout=60)
+    return made
 
 
 def typed() -> list[str]:
@@ -68,6 +82,43 @@ def test_an_owner_does_all_that_the_page_says(by, folder, looked):
     assert_ends(by.run("who", "frob"), 0, "free")
     with open(f"{by.home}/index-record.jsonl", encoding="utf-8") as record:
         looked(sum(1 for _ in record) == 8, "the changes in the record")
+
+
+def dated(*days):
+    """Nightly builds of so many days ago, with one that was never given a date and a final one."""
+    today = datetime.datetime.now(datetime.timezone.utc)
+    return ["1.0", "1.1.dev0", *(f"1.1.dev{today - datetime.timedelta(days=it):%Y%m%d}" for it in days)]
+
+
+def test_the_timer_of_the_page_deletes_old_nightly_builds(by, folder):
+    """Its block is pasted where `systemctl` writes down what it is asked for; then its unit is read and run."""
+    put(f"{folder}/bin/systemctl", '#!/bin/sh\necho "$@" >> "$HOME/asked"\n', 0o755)
+    path = f"{folder}/bin:{os.environ['PATH']}"
+    block = read_recipes(PAGE)[0][TIMER].text
+    for _ in range(2):
+        subprocess.run(["sh", "-e", "-c", block], check=True, timeout=60, env=environment(HOME=by.home, PATH=path))
+    with open(f"{by.home}/asked", encoding="utf-8") as asked:
+        assert asked.read().splitlines() == 2 * ["--user daemon-reload", "--user enable --now frob-room.timer"]
+    units = f"{by.home}/.config/systemd/user"
+    if shutil.which("systemd-analyze"):
+        found = subprocess.run(["systemd-analyze", "--user", "verify", f"{units}/frob-room.timer"], text=True,
+                               stdout=subprocess.PIPE, stderr=subprocess.STDOUT, env=environment(HOME=by.home),
+                               timeout=60)
+        assert "frob-room" not in found.stdout, found.stdout
+    run = environment(HOME=by.home, INDEX_URL=None)
+    assert_ends(by.run("name", "claim", "frob", caller=None, INDEX_URL=None), 0)
+    releases = dated(*range(20), 31, 32, 40)
+    for release in releases:
+        make_source(f"{folder}/dist/frob-{release}.tar.gz", "frob", release, {})
+    assert_ends(by.run("upload", f"{folder}/dist", caller=None, INDEX_URL=None), 0)
+    with open(f"{units}/frob-room.service", encoding="utf-8") as unit:
+        line = re.findall("^ExecStart=(.*)$", unit.read(), re.M)[0].replace("%h", by.home)
+    shutil.copy(build(folder), f"{by.home}/indexctl")
+    ended = subprocess.run(shlex.split(line), stdout=subprocess.PIPE, stderr=subprocess.STDOUT, timeout=60, text=True,
+                           env=run, stdin=subprocess.DEVNULL)
+    assert ended.returncode == 0 and "have no date: 1.1.dev0." in ended.stdout, ended.stdout
+    left = {row["release"] for row in by.rows("releases", "frob", caller=None, INDEX_URL=None)}
+    assert set(releases) - left == {*dated(31, 32, 40)[2:]}
 
 
 def test_what_using_names_between_its_blocks_works(by, folder, looked):

@@ -4,8 +4,9 @@ from __future__ import annotations
 import pytest
 from indexctl import page
 from indexctl.quotas import Overview
-from indexctl.site.pages import list_page
 from indexctl.site.about import NOTHING
+from indexctl.site.needs import Around
+from indexctl.site.pages import list_page
 from indexctl.site.projects import Project
 from support.indexctl.browser import opened
 from support.indexctl.rows import held
@@ -180,11 +181,13 @@ def test_a_screen_reader_gets_the_whole_list_unless_it_is_long(shared_folder, co
     for name in ("page.css", "site/site.css"):
         with open(f"{shared_folder}/style.css", "w" if name == "page.css" else "a", encoding="utf-8") as style:
             style.write(page.part_of_page(name))
-    page.put_whole(f"{shared_folder}/list.html", [list_page("https://packages.example", projects)])
+    made = list_page("https://packages.example", projects, Around({}, {}, False))
+    page.put_whole(f"{shared_folder}/list.html", [made])
     with opened() as browser:
         browser.look()
         browser.go(f"file://{shared_folder}/list.html")
-        links = sum(role == "link" for role, _ in browser.spoken())
+        # beside the one that leads to all of them as JSON
+        links = sum(role == "link" for role, _ in browser.spoken()) - 1
         looked((links == count) == (count < page.MANY), count, links)
         assert_paper_has_all(browser, count >= page.MANY)
 

@@ -82,8 +82,9 @@ def test_each_python_says_the_version_and_prints_the_manual_page(python, one_fil
 
 
 def test_the_version_is_that_of_the_newest_changes():
+    """Of those that are released: the number is raised with the day of a release."""
     with open(f"{TOP}/CHANGELOG.md", encoding="utf-8") as changes:
-        assert re.search("^## ([0-9.]+), ", changes.read(), re.M)[1] == VERSION
+        assert re.search("^## ([0-9.]+), [0-9]", changes.read(), re.M)[1] == VERSION
 
 
 def test_the_package_has_the_same_file():

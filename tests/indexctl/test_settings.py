@@ -117,7 +117,17 @@ def test_an_address_in_the_clear_is_refused(by):
 
 def test_an_address_with_a_path_is_refused(by):
     ended = by.run("names", "--again", "0", INDEX_URL=f"{by.setting['INDEX_URL']}/simple/")
-    assert_ends(ended, 2, "without a path")
+    assert_ends(ended, 2, "Leave out /simple/", f"the address of the index is {by.setting['INDEX_URL']}.")
+
+
+@pytest.mark.parametrize("place", ["?a", "#a", "/simple/?a"])
+def test_what_is_no_address_is_refused(by, place):
+    assert_ends(by.run("names", "--again", "0", INDEX_URL=f"{by.setting['INDEX_URL']}{place}"), 2, "without a path")
+
+
+def test_a_profile_that_is_not_there_is_told_though_an_address_is_set(by):
+    ended = by.run("names", "--profile", "work")
+    assert_ends(ended, 2, "There is no profile 'work'", "~/.config/indexctl.ini is not there", "`indexctl profile ")
 
 
 def test_a_new_token_comes_with_its_digest(by):

@@ -11,6 +11,7 @@ import subprocess
 import sys
 
 import pytest
+from indexctl.command_line import ALIASES
 from indexctl.commands import COMMANDS
 from support.indexctl.control import Control, assert_ends, environment
 from support.needed import want_command
@@ -18,7 +19,9 @@ from support.places import SERVER, TOP
 
 pytestmark = pytest.mark.xdist_group("shell")
 GROUPS = ("token", "profile", "user", "name", "owner", "file", "release", "quota", "quotas", "names", "who", "owned-by",
-          "files", "releases", "status", "case", "upload", "page", "site", "replay", "completion", "man")
+          "files", "releases", "status", "case", "upload", "page", "site", "replay", "import", "export",
+          "completion", "man", "search", "help", "version", "inventory", "history", "doctor",
+          *ALIASES)
 MODULES = sorted(os.path.relpath(path, TOP) for room in (f"{TOP}/indexctl", f"{SERVER}/lib/package_index")
                  for path in glob.glob(f"{room}/**/*.py", recursive=True))
 # what a system without locks and terminals of Unix has not
@@ -62,7 +65,7 @@ def paths(help_of):
 
 
 def test_help_names_all_commands(paths):
-    assert len(paths) == 40 and {it.split()[0] for it in paths} == set(GROUPS)
+    assert len(paths) == 51 and {it.split()[0] for it in paths} == set(GROUPS)
 
 
 def test_a_verb_has_help(help_of):
@@ -78,6 +81,7 @@ def manual(plain):
 
 def test_the_manual_page_has_each_command(paths, manual):
     assert not [path for path in paths if f"indexctl {path}".replace("-", "\\-") not in manual]
+    assert "\\fBindexctl info\\fR is the same." in manual
 
 
 def test_the_manual_page_says_what_a_word_may_be(manual):

@@ -5,64 +5,26 @@ import os
 import re
 import signal
 import subprocess
-import time
-from dataclasses import dataclass
-from typing import Any, Dict, Iterator
+from typing import Any, Iterator
 
 import pytest
 from support.indexctl.browser import BROKEN_WORDS, CONTRASTS, WIDTHS, Page, opened
-from support.indexctl.control import Control, assert_ends, filled, put
-from support.indexctl.projects import LONGEST_USER, REASON, fill_with_projects
-from support.indexctl.sample import MARKUP, NAMES, lines_of
+from support.indexctl.control import assert_ends, put
+from support.indexctl.projects import LONGEST_USER
+from support.indexctl.sample import NAMES
+from support.indexctl.site import COUNT, FJORD, PEOPLE, Site, read, served_site, texts_of
 from support.needed import want_module
 from support.places import NGINX, SERVER
 from support.serving import Index
 
 pytestmark = pytest.mark.xdist_group("site")
-PEOPLE = "https://packages.example"
-COUNT = len(NAMES) + 2
-FJORD = "/browse/projects/fjord-queue.html"
-
-
-@dataclass
-class Site:
-    """The index, its caller, the folder of the pages, what stood there by then, and nginx."""
-    index: Any
-    by: Control
-    folder: str
-    texts: Dict[str, str]
-    ended: Any
-    front: Any
-
-
-def read(path: str) -> str:
-    with open(path, encoding="utf-8") as page:
-        return page.read()
-
-
-def texts_of(folder: str) -> Dict[str, str]:
-    """Each page of a folder by its path in there."""
-    found = {}
-    for at, _, names in os.walk(folder):
-        for name in names:
-            found[os.path.relpath(f"{at}/{name}", folder)] = read(f"{at}/{name}")
-    return found
+OWN = "404.html", "feed.xml", "icon.svg", "index.html", "projects.json", "site.js", "style.css"
 
 
 @pytest.fixture(scope="module")
 def site(program, open_folder, certificate) -> Iterator[Site]:
-    from support.server.front import Front
-    path = filled(program, f"{open_folder}/site.db", lines_of(int(time.time()), markup=True))
-    folder = f"{open_folder}/pages"
-    os.mkdir(folder)
-    with Index(program, path=path) as index:
-        fill_with_projects(index)
-        by = Control(open_folder, f"http://127.0.0.1:{index.port}", INDEX_TOKEN=None)
-        ended = by.run("site", folder, "--url", PEOPLE)
-        front = Front(f"{open_folder}/site-front", certificate, index.port)
-        front.put("index/server.d/site.conf", read(f"{NGINX}/site.conf"), **{"/var/lib/index-site": folder})
-        with front:
-            yield Site(index, by, folder, texts_of(folder), ended, front)
+    with served_site(program, open_folder, certificate) as made:
+        yield made
 
 
 @pytest.fixture(scope="module")
@@ -82,15 +44,16 @@ def text(page: Page) -> str:
 
 
 def test_a_page_is_written_for_each_project_without_a_token(site):
-    assert_ends(site.ended, 0, f"{COUNT} projects, {COUNT + 3} pages changed")
+    assert_ends(site.ended, 0, f"{COUNT} projects, {COUNT + len(OWN)} pages changed")
     names = [re.sub(r"[-_.]+", "-", it).lower() for it in (*NAMES, "fjord-queue", "early")]
-    assert sorted(site.texts) == sorted([".wheels.json", "index.html", "site.js", "style.css",
+    assert sorted(site.texts) == sorted([".changes.json", ".wheels.json", *OWN,
                                          *(f"projects/{it}.html" for it in names)])
 
 
 def test_a_second_run_writes_nothing(site):
     before = os.stat(f"{site.folder}/index.html").st_mtime_ns
-    assert_ends(site.by.run("site", site.folder, "--url", PEOPLE), 0, f"{COUNT} projects, 0 pages changed")
+    ended = site.by.run("site", site.folder, "--url", PEOPLE, "--log", site.log)
+    assert_ends(ended, 0, f"{COUNT} projects, 0 pages changed")
     assert os.stat(f"{site.folder}/index.html").st_mtime_ns == before
 
 
@@ -116,8 +79,8 @@ def test_a_page_that_is_gone_goes_and_one_that_changed_is_written(site, folder):
     put(f"{made}/projects/passing.html.part", "left by a run that was killed")
     site.index.request(do="relinquish", name="passing")
     ended = site.by.run("site", made)
-    # the list, the page of moss, and the two that went
-    assert_ends(ended, 0, f"{COUNT} projects, 4 pages changed")
+    # both lists, the page of moss, and the two that went
+    assert_ends(ended, 0, f"{COUNT} projects, 5 pages changed")
     texts = texts_of(made)
     assert not [it for it in texts if "passing" in it or it.endswith(".part")] and "spoilt" not in str(texts)
 
@@ -156,17 +119,21 @@ def test_without_the_pages_it_leads_to_the_index(program, open_folder, certifica
 
 
 @pytest.mark.parametrize("path, kind", [("", "text/html"), ("style.css", "text/css"), ("site.js", "text/javascript"),
+                                        ("icon.svg", "image/svg+xml"), ("projects.json", "application/json"),
+                                        ("feed.xml", "application/atom+xml"),
                                         ("projects/early.html", "text/html")])
 def test_pages_have_a_type_a_charset_and_a_policy(site, path, kind):
     status, headers, _ = site.front.ask("GET", f"/browse/{path}")
-    assert (status, headers["Content-Type"]) == (200, f"{kind}; charset=utf-8")
-    policy = headers["Content-Security-Policy"]
-    assert "default-src 'none'" in policy and "script-src 'self'" in policy and "unsafe" not in policy
+    assert (status, headers["Content-Type"].partition("; charset=utf-8")[0]) == (200, kind)
+    policy = dict(it.split(" ", 1) for it in headers["Content-Security-Policy"].split("; "))
+    assert policy["default-src"] == "'none'" and set(policy.values()) == {"'none'", "'self'"}
     assert headers["X-Content-Type-Options"] == "nosniff" and headers["Cache-Control"] == "no-cache"
 
 
 def test_what_wheels_said_is_not_served(site):
-    assert site.front.ask("GET", "/browse/.wheels.json")[0] == 404
+    description, *_ = os.listdir(f"{site.folder}/.descriptions")
+    for path in (".wheels.json", ".changes.json", ".descriptions/", f".descriptions/{description}"):
+        assert site.front.ask("GET", f"/browse/{path}")[0] == 404
 
 
 def test_the_html_has_no_error_of_a_parser(site):
@@ -178,80 +145,12 @@ def test_the_html_has_no_error_of_a_parser(site):
 
 def test_a_browser_asks_for_the_pages_alone_and_has_no_complaint(site, chromium):
     chromium.look()
-    chromium.go(f"{site.front.url}/browse/")
-    assert chromium.console == []
-    assert chromium.asked == [f"{site.front.url}/browse/{it}" for it in ("", "style.css", "site.js")]
-    chromium.go(f"{site.front.url}{FJORD}")
-    assert chromium.console == []
-    assert chromium.asked == [f"{site.front.url}{FJORD}", f"{site.front.url}/browse/style.css"]
-
-
-def test_texts_of_strangers_are_texts(site, chromium):
-    chromium.look()
-    chromium.go(f"{site.front.url}{FJORD}")
-    said = text(chromium)
-    assert said.count(MARKUP) == 2 and REASON in said
-    assert "\\u202e" in said and "\u202e" not in chromium.value("document.documentElement.outerHTML")
-    assert chromium.value("document.title") == "Fjord.Queue \u00b7 packages.example"
-    assert chromium.value("document.querySelectorAll('script').length") == 0
-    links = chromium.value("Array.from(document.links, function (it) { return it.protocol; })")
-    assert set(links) == {"https:"}
-    chromium.go(f"{site.front.url}/browse/")
-    assert MARKUP in text(chromium) and "\u202e" not in chromium.value("document.documentElement.outerHTML")
-
-
-def test_a_script_that_gets_into_a_page_does_not_run(site, chromium):
-    path = f"{site.folder}/projects/inkwell.html"
-    before = read(path)
-    put(path, before.replace("</main>", "<script>document.title = 'taken'</script></main>"), 0o644)
-    try:
-        chromium.go(f"{site.front.url}/browse/projects/inkwell.html")
-        assert chromium.value("document.title") == "inkwell \u00b7 packages.example"
-        assert any("Content Security Policy" in it for it in chromium.console)
-    finally:
-        put(path, before, 0o644)
-
-
-def test_releases_come_newest_first_with_files_digests_and_yanks(site, chromium):
-    chromium.look()
-    chromium.go(f"{site.front.url}{FJORD}")
-    heads = chromium.value("Array.from(document.querySelectorAll('h3'), function (it) { return it.textContent; })")
-    assert heads == ["2.1", "2.0", "2.0rc1", "1.10", "1.9"]
-    said = text(chromium)
-    assert "newest release\n2.0\n" in said and "Yanked: loses" in said and said.count("Yanked") == 1
-    assert said.count("Python >=3.8, <4") == 5
-    assert len(set(re.findall(r"SHA-256 ([0-9a-f]{64})\n", said))) == 6
-    assert "fjord_queue-2.0.tar.gz 28 B\n" in said
-
-
-def test_a_page_says_what_the_newest_wheel_says(site, chromium):
-    chromium.go(f"{site.front.url}{FJORD}")
-    said = text(chromium)
-    assert 'home page\nhttps://fjord.example/?a="><b>\nlicence\nMIT\n' in said and "javascript" not in said
-    assert said.index("Sends & receives") < said.index("newest release")
-
-
-def test_a_page_says_how_to_install(site, chromium):
-    chromium.go(f"{site.front.url}{FJORD}")
-    said = text(chromium)
-    assert f"python3 -m pip install --index-url {PEOPLE}/simple/ fjord-queue\n" in said
-    assert f"uv add --default-index {PEOPLE}/simple/ fjord-queue\n" in said
-    chromium.go(f"{site.front.url}/browse/projects/driftwood.html")
-    assert "Install" not in text(chromium) and "newest release\nnone" in text(chromium)
-
-
-def test_a_page_has_owners_and_an_open_case(site, chromium):
-    chromium.go(f"{site.front.url}/browse/projects/glasshouse.html")
-    said = text(chromium)
-    assert "owners\nhugo\n" in said and "jonas asks for this name, to continue the project, since 20" in said
-    chromium.go(f"{site.front.url}/browse/projects/inkwell.html")
-    assert "open case" not in text(chromium)
-
-
-def test_each_link_to_a_file_gives_its_bytes(site, chromium):
-    chromium.go(f"{site.front.url}{FJORD}")
-    paths = chromium.value("Array.from(document.querySelectorAll('.files a'), function (it) { return it.pathname; })")
-    assert len(paths) == 6 and {site.front.ask("GET", it)[0] for it in paths} == {200}
+    # it asks for the icon once, and when it likes
+    for path in ("/browse/", FJORD):
+        chromium.go(f"{site.front.url}{path}")
+        assert chromium.console == []
+        assert {*chromium.asked, f"{site.front.url}/browse/icon.svg"} == {
+            f"{site.front.url}{it}" for it in (path, "/browse/style.css", "/browse/site.js", "/browse/icon.svg")}
 
 
 def test_a_search_leaves_what_has_the_words(site, chromium):
@@ -265,6 +164,63 @@ def test_a_search_leaves_what_has_the_words(site, chromium):
     chromium.value("document.getElementById('find').select()")
     chromium.type("no such text")
     assert shown(chromium) == []
+
+
+def test_a_search_can_be_sent(site, chromium):
+    chromium.look()
+    chromium.go("about:blank")
+    chromium.go(f"{site.front.url}/browse/#q=fjord+%C3%BC")
+    assert chromium.value("document.getElementById('find').value") == "fjord \u00fc" and shown(chromium) == []
+    assert "No project has these words." in text(chromium)
+    chromium.value("location.hash = '#q=fjord'")
+    assert chromium.until("document.querySelectorAll('.projects > li:not([hidden])').length === 1")
+    assert "No project" not in text(chromium)
+    chromium.value("document.getElementById('find').select()")
+    chromium.type("ember cache & 100%")
+    assert chromium.until("location.hash === '#q=ember+cache+%26+100%25'")
+    for address in ("#q=%", "#q", "#x"):
+        chromium.go("about:blank")
+        chromium.go(f"{site.front.url}/browse/{address}")
+        assert chromium.console == []
+
+
+def test_a_stroke_leads_to_the_search(site, chromium):
+    chromium.look()
+    chromium.go("about:blank")
+    chromium.go(f"{site.front.url}/browse/")
+    key = "document.dispatchEvent(new KeyboardEvent('keydown', {key: '/', ctrlKey: %s, cancelable: true}))"
+    assert chromium.value(key % "true") and chromium.value("document.activeElement.id") == ""
+    assert not chromium.value(key % "false") and chromium.value("document.activeElement.id") == "find"
+
+
+def test_a_command_is_copied(site, chromium):
+    chromium.look()
+    chromium.go(f"{site.front.url}{FJORD}")
+    said = f"uv add --default-index {PEOPLE}/simple/ fjord-queue"
+    assert ("button", f"Copy: {said}") in chromium.spoken()
+    chromium.value("navigator.clipboard.writeText = function (it) { window.it = it; return Promise.resolve(); }")
+    chromium.value("document.querySelectorAll('.copied button')[1].click()")
+    assert chromium.value("window.it") == said
+    assert chromium.until("document.querySelectorAll('.copied button')[1].textContent === 'Copied'")
+
+
+def test_an_address_without_a_page_says_so(site, chromium):
+    for path in ("projects/none.html", "projects/", ".wheels.json"):
+        status, headers, body = site.front.ask("GET", f"/browse/{path}")
+        assert (status, headers["Content-Type"]) == (404, "text/html; charset=utf-8")
+        assert b"There is no such page" in body and "default-src 'none'" in headers["Content-Security-Policy"]
+    assert site.front.ask("POST", "/browse/projects/early.html", "x")[0] == 405
+    chromium.go(f"{site.front.url}/browse/a/b/c.html")
+    assert chromium.value("document.links[0].pathname") == "/browse/"
+    assert "rgb" in chromium.value("getComputedStyle(document.querySelector('main')).color")
+    assert {it.rpartition("/")[2] for it in chromium.asked} <= {"c.html", "style.css", "icon.svg"}
+    # as before the first run
+    before = read(f"{site.folder}/404.html")
+    os.remove(f"{site.folder}/404.html")
+    try:
+        assert site.front.ask("GET", "/browse/none.html")[0] == 404
+    finally:
+        put(f"{site.folder}/404.html", before, 0o644)
 
 
 def roles(page: Page):
@@ -362,4 +318,6 @@ def test_without_a_script_all_is_there_but_the_search(site, chromium):
 
 
 def test_the_unit_writes_where_nginx_reads():
-    assert "indexctl site --url ${SITE_URL} /var/lib/index-site\n" in read(f"{SERVER}/systemd/index-site.service")
+    words = "indexctl site --url ${SITE_URL} --log /var/log/package-index/changes.log /var/lib/index-site\n"
+    assert words in read(f"{SERVER}/systemd/index-site.service")
+    assert "access_log /var/log/package-index/changes.log index_changes" in read(f"{NGINX}/packages.conf")

@@ -101,7 +101,7 @@ def test_a_token_is_printed_before_the_next_user_is_asked_for(run, monkeypatch):
     """Whoever interrupts then has the token of each user that was added."""
     kept, printed = io.BytesIO(), []
     monkeypatch.setattr(sys, "stdout", io.TextIOWrapper(kept))
-    monkeypatch.setattr(run.desk, "change", lambda *_: printed.append(kept.getvalue().count(b"\n")) or True)
+    monkeypatch.setattr(run.desk, "change", lambda *_, **__: printed.append(kept.getvalue().count(b"\n")) or True)
     assert run("user", "add", "eve", "bob") == 0 and printed == [0, 1]
 
 
@@ -270,6 +270,7 @@ def test_files_and_owners_of_a_prohibited_name_are_told_first(run, capsys):
     assert len(run.asked("name", "prohibit", "a", "free")) == 2
     assert run.confirmed == ["This deletes files and takes names from their owners: a: 1 file of ann, bob."]
     assert capsys.readouterr().out.splitlines() == ["index-uncache a a-1.0.tar.gz"]
+    assert run.looked == ["a-1.0.tar.gz"]
 
 
 def test_a_file_that_came_a_moment_before_a_prohibition_leaves_the_cache(run):
@@ -297,6 +298,12 @@ def test_a_version_with_an_epoch_is_no_command_of_a_shell(run, capsys, file):
 def test_what_was_refused_leaves_the_cache(run, capsys, words):
     run.desk.refuses = {"prohibit", "ban_file", "delete"}
     assert run(*words) == REFUSED and "index-uncache" not in capsys.readouterr().out
+    assert run.looked == []
+
+
+def test_of_what_was_banned_it_is_told_whether_it_still_goes_out(run):
+    run.asked("file", "ban", "Frob_x-1.tar.gz", "spam-1.tar.gz")
+    assert run.looked == ["Frob_x-1.tar.gz", "spam-1.tar.gz"]
 
 
 @pytest.mark.parametrize("size, quota", [("+1KiB", 3_024), ("5KiB", 5_120)])

@@ -26,12 +26,13 @@ def test_of_a_command_with_a_name_the_index_is_asked():
 
 @pytest.mark.parametrize("text, given, kind, profile", [
     ("who ", [], "NAME", None), ("who a b", ["a"], "NAME", None), ("case attempt ", [], "NAME", None),
-    ("case attempt a ", ["a"], "MEANS", None), ("release yank a 1", ["a"], "RELEASE", None),
+    ("case attempt a ", ["a"], "NAME", None), ("quota set a b ", ["a", "b"], "NAME", None),
+    ("release yank a 1", ["a"], "RELEASE", None),
     ("release yank --profile x a ", ["a"], "RELEASE", "x"), ("release yank a --yes ", ["a"], "RELEASE", None),
     ("who --profile = x a ", ["a"], "NAME", "x"), ("release yank --reason b a ", ["a"], "RELEASE", None),
     ("owner add ann ", ["ann"], "NAME", None), ("owner add ", [], "USER", None), ("file delete ", [], "FILE", None),
     ("upload a", [], "PATH", None), ("case list --json a", None, None, None), ("status a ", None, None, None),
-    ("release yank a 1 ", None, None, None), ("who --profile ", None, None, None), ("who", None, None, None),
+    ("release yank a 1 ", ["a", "1"], "RELEASE", None), ("who --profile ", None, None, None), ("who", None, None, None),
     ("release", None, None, None), ("", None, None, None), ("nothing here ", None, None, None)])
 def test_a_line_says_what_is_typed(text, given, kind, profile):
     found = completion.read_line(text.split(" "))
@@ -79,6 +80,8 @@ def test_releases_are_those_that_begin_so():
 def test_the_script_is_printed_or_what_the_index_has(monkeypatch, capsys):
     monkeypatch.setattr(completion, "found_in_time", lambda it: [it.kind, "b"])
     for words, told in (([], completion.script_of(completion.COMMANDS)), (["who", "a"], "NAME\nb\n"),
-                        (["upload", "a"], ""), (["case", "list", "a"], "")):
+                        (["upload", "a"], ""), (["case", "list", "a"], ""),
+                        (["case", "attempt", "p"], "NAME\nb\n"),
+                        (["case", "attempt", "a", "p"], "NAME\nb\nprofile\npages\n")):
         completion.completion(argparse.Namespace(words=words))
         assert capsys.readouterr().out == told

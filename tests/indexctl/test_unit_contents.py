@@ -1,6 +1,7 @@
 """What a page has of a project, the order of its releases, and what was meant by a slip."""
 from __future__ import annotations
 
+import importlib
 import json
 import random
 
@@ -8,6 +9,7 @@ import pytest
 from indexctl import contents, near, terminal, versions
 from indexctl.ends import WRONG, Stop
 from support.indexctl.rows import FakeIndex, args, reply
+from support.needed import want_module
 
 DIGEST = "ab" * 32
 ORDERED = ("strange_", "0.9", "1.0.dev1", "1.0a1.dev1", "1.0a1", "1.0b2", "1.0rc1", "1.0", "1.0+abc", "1.0+5",
@@ -82,7 +84,8 @@ def test_long_numbers_are_compared_whole(form):
 
 
 def test_releases_are_ordered_as_installers_do(looked):
-    version = pytest.importorskip("packaging.version", reason="python3-packaging").Version
+    want_module("packaging", "python3-packaging")
+    version = importlib.import_module("packaging.version").Version
     chance = random.Random(7)
     for _ in range(5_000):
         parts = [chance.choice(it) for it in PARTS]

@@ -11,7 +11,7 @@ import pytest
 from indexctl import record as records
 from indexctl.ends import WRONG, Stop
 from indexctl.record import Record
-from support.unit import with_time
+from support.unit import raises, with_time
 
 
 def keep_rows(path, who, count, at_once):
@@ -60,6 +60,25 @@ def test_nobody_else_has_even_a_shared_lock_while_room_is_taken(folder):
     with record.room({"a": 1}):
         assert not is_free(path)
     assert is_free(path)
+
+
+def test_a_row_comes_behind_those_that_another_run_has_kept_meanwhile(tmp_path, monkeypatch):
+    """Until a run has the lock, the record may grow. (Two processes show this if the machine has time for both.)"""
+    path, lock = tmp_path / "record", fcntl.flock
+
+    def lock_after_another(file, how):
+        if how & fcntl.LOCK_EX:
+            with open(path, "ab") as other:
+                other.write(b'{"who": "another"}\n')
+        lock(file, how)
+
+    record = Record(str(path))
+    monkeypatch.setattr(records.fcntl, "flock", lock_after_another)
+    with record.room({"who": "this"}) as keep:
+        keep()
+    with record.room({"who": "nobody"}):
+        pass
+    assert path.read_text() == '{"who": "another"}\n{"who": "this"}\n{"who": "another"}\n'
 
 
 def test_the_lock_is_given_back_if_the_change_fails(folder):
@@ -155,6 +174,15 @@ def test_a_disk_that_is_full_leaves_the_record_as_it_was(tmp_path, monkeypatch):
     assert end.value.status == WRONG and (tmp_path / "record").read_text() == "{}\n"
 
 
+def test_a_disk_that_takes_nothing_back_either_is_told_all_the_same(tmp_path, monkeypatch):
+    record = Record(str(tmp_path / "record"))
+    monkeypatch.setattr(os, "pwrite", raises(OSError(errno.EIO, "Input/output error")))
+    monkeypatch.setattr(os, "ftruncate", raises(OSError(errno.EIO, "Input/output error")))
+    with pytest.raises(Stop, match="Input/output error.*This was not asked for"):
+        with record.room({"a": 1}):
+            raise AssertionError("the change was asked for")
+
+
 def test_a_change_whose_line_can_t_be_written_is_told_as_accepted(tmp_path, monkeypatch):
     """As on a file system that writes what it has room for elsewhere."""
     record = Record(str(tmp_path / "record"))
@@ -168,9 +196,10 @@ def test_a_change_whose_line_can_t_be_written_is_told_as_accepted(tmp_path, monk
     assert end.value.errno == errno.ENOSPC
 
 
-def test_a_record_in_no_folder_is_told(tmp_path):
-    with pytest.raises(Stop, match="can't be written: No such file.*Nothing was asked for") as end:
-        Record(str(tmp_path / "none" / "record"))
+@pytest.mark.parametrize("name, why", [("none/record", "No such file"), ("", "Is a directory")])
+def test_a_record_that_can_t_be_made_is_told(tmp_path, name, why):
+    with pytest.raises(Stop, match=f"can't be written: {why}.*Nothing was asked for") as end:
+        Record(str(tmp_path / name))
     assert end.value.status == WRONG
 
 

@@ -32,6 +32,17 @@ def test_a_user_is_named():
     assert said("NoUser").startswith("There is no user ...")
 
 
+@pytest.mark.parametrize("do, verb", [("add_owner", "add"), ("remove_owner", "remove")])
+def test_a_user_and_a_project_that_changed_places_are_told(do, verb):
+    """`owner add frob bob`"""
+    wanted = f"frob is a project. Did you mean `indexctl owner {verb} bob frob`?"
+    assert said("NoUser", HELD, do=do, user="frob", name="bob") == wanted
+    free = {"name": "frob", "state": "free"}
+    for row, values in (({"user": "frob", "name": "bob"}, [free]), ({"user": "frob", "name": "Not-A-User"}, [])):
+        assert said("NoUser", *values, do=do, **row).startswith("There is no user frob.")
+    assert said("NoUser", do="set_token", user="frob").startswith("There is no user frob.")
+
+
 @pytest.mark.parametrize("row", [{"name": "frob"}, {"file": "frob-1.0.tar.gz"}, {"name": "frob", "file": "x-1.tar.gz"}])
 def test_owners_are_looked_up_by_the_name_or_the_file(row):
     index = index_of(HELD)

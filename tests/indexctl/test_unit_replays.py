@@ -2,6 +2,7 @@
 from __future__ import annotations
 
 import dataclasses
+import gzip
 import json
 import signal
 
@@ -9,6 +10,7 @@ import pytest
 from indexctl import replays
 from indexctl.commands import work
 from indexctl.ends import WRONG, Stop
+from indexctl.terminal import say_row
 from support.indexctl.rows import args, case_of, held
 
 URL, ME = "https://packages.example", "01234567"
@@ -57,11 +59,19 @@ def test_a_deletion_in_nginx_s_log_names_its_file():
     assert found.row == {"do": "delete", "file": "a-1.tar.gz"}
 
 
+@pytest.mark.parametrize("more", [{}, {"file": ""}])
 @pytest.mark.parametrize("path", ["/legacy/", "/legacy"])
-def test_an_upload_by_twine_in_nginx_s_log_has_no_file(path):
-    found = replays.read_line(1, logged(method="POST", path=path, body=""))
+def test_an_upload_by_twine_in_an_older_log_has_no_file(path, more):
+    found = replays.read_line(1, logged(method="POST", path=path, body="", **more))
     assert found.row == {"do": "upload", "file": ""}
     assert replays.why_left(found, URL, ME, True).startswith("it is an upload by twine or its like")
+
+
+def test_an_upload_by_twine_is_shown_with_its_file():
+    found = replays.read_line(1, logged(method="POST", path="/legacy/", body="", file="frob-1.0.tar.gz", caller=ME))
+    assert found.row == {"do": "upload", "file": "frob-1.0.tar.gz"}
+    assert replays.why_left(found, URL, ME, True) == (
+        "its bytes are needed: let an owner upload the same file again")
 
 
 @pytest.mark.parametrize("path", ["//legacy/", "/legacy%2F", "/x/../legacy/"])
@@ -113,14 +123,25 @@ def test_lines_keep_their_numbers_past_empty_ones_and_refused_ones(tmp_path):
     assert [it.number for it in replays.read_lines(str(record))] == [1, 5]
 
 
+def test_a_log_that_logrotate_compressed_is_read(tmp_path):
+    packed = gzip.compress(f"{logged(method='PUT', path='/files/a/a-1.tar.gz')}\n".encode())
+    (tmp_path / "log.gz").write_bytes(packed)
+    assert [it.row["file"] for it in replays.read_lines(str(tmp_path / "log.gz"))] == ["a-1.tar.gz"]
+    (tmp_path / "log.gz").write_bytes(packed[:-9])
+    with pytest.raises(Stop, match="log.gz can't be read: Compressed file ended") as end:
+        replays.read_lines(str(tmp_path / "log.gz"))
+    assert end.value.status == WRONG
+
+
 def test_bytes_that_are_no_text_end_no_replay(tmp_path):
     (tmp_path / "record").write_bytes(b'{"at": "1970-01-01T00:00:10Z", "do": "x", "reason": "\xff"}\n')
     assert replays.read_lines(str(tmp_path / "record"))[0].row["reason"] == "\ufffd"
 
 
-def test_a_record_that_can_t_be_read_is_told(tmp_path):
-    with pytest.raises(Stop, match="none can't be read: No such file") as end:
-        replays.read_lines(str(tmp_path / "none"))
+@pytest.mark.parametrize("name, why", [("none", "No such file"), ("", "Is a directory")])
+def test_a_record_that_can_t_be_read_is_told(tmp_path, name, why):
+    with pytest.raises(Stop, match=f"{name} can't be read: {why}") as end:
+        replays.read_lines(str(tmp_path / name))
     assert end.value.status == WRONG
 
 
@@ -151,7 +172,10 @@ class FakeDesk:
 
         class setting:
             url = URL
-        self.setting = setting
+        self.setting, self.is_json = setting, False
+
+    def say(self, text, row=None):
+        say_row(self.is_json, text, row)
 
     def token(self):
         return "office"

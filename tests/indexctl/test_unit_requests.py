@@ -13,7 +13,7 @@ from support.places import TOP
 REQUESTS = {*rules.REFUSALS_OF}
 # the refusal of what only the office may ask for
 NOT_THE_OFFICE = 3
-DO = re.compile(r'(?:\bdo=|"do": )"(\w+)"')
+DO = re.compile(r'(?:\bdo=|"do": |each_name\(args, )"(\w+)"|desk\.(delete)\(')
 
 
 def test_a_replay_knows_what_only_the_office_may_ask_for():
@@ -25,10 +25,11 @@ def test_a_replay_knows_which_requests_name_a_file():
 
 
 def test_indexctl_asks_for_each_request():
+    """Its commands do: what only looks, elsewhere, asks for some that can't change anything."""
     asked: set = set()
-    for path in glob.glob(f"{TOP}/indexctl/**/*.py", recursive=True):
+    for path in glob.glob(f"{TOP}/indexctl/commands/*.py"):
         with open(path, encoding="utf-8") as kept:
-            asked |= {*DO.findall(kept.read())}
+            asked |= {one or other for one, other in DO.findall(kept.read())}
     assert REQUESTS <= asked
 
 

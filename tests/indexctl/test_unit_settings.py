@@ -251,7 +251,7 @@ def test_no_profile_at_all_is_told_with_what_to_do(home):
     with pytest.raises(Stop, match="No index is named. Set INDEX_URL") as end:
         settings.setting_of_profile(None)
     assert end.value.status == WRONG
-    with pytest.raises(Stop, match="No index is named"):
+    with pytest.raises(Stop, match="There is no profile 'a': ~/.config/indexctl.ini is not there"):
         settings.setting_of_profile("a")
 
 

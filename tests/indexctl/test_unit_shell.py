@@ -46,8 +46,8 @@ def test_each_command_is_parsed_with_its_function_and_the_common_defaults():
     top, made = command_line.parsers(COMMANDS)
     assert set(made) == {it.path for it in COMMANDS}
     args = top.parse_args(["case", "transfer", "frob", "--quiet"])
-    assert (args.name, args.quiet, args.yes, args.json, args.again, args.profile) == ("frob", True, False, False, 6,
-                                                                                      None)
+    assert (args.names, args.quiet, args.yes, args.json, args.again, args.profile) == (["frob"], True, False, False, 6,
+                                                                                       None)
     assert args.function.__name__ == "case_transfer"
     args = top.parse_args(["names", "--again", "2", "--profile", "x", "--json"])
     # a command without --yes has not said it

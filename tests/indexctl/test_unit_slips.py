@@ -1,7 +1,10 @@
 """Slips of people, told before the index is asked, with what was perhaps meant."""
 from __future__ import annotations
 
+import json
+
 import pytest
+from indexctl.about import VERSION
 from indexctl.command_line import parsers
 from indexctl.commands import COMMANDS
 from indexctl.ends import WRONG, Stop
@@ -13,12 +16,84 @@ from support.indexctl.rows import held
     ("nam claim x", "`indexctl name`?"), ("nmaes", "`indexctl names`?"),
     ("file list x", "`indexctl files`?"), ("quota list", "`indexctl quotas`?"),
     ("release yakn x 1", "`indexctl release yank`?"), ("usr add", "`indexctl user`?"),
-    ("owner list x", "`indexctl case list`?"), ("file show x", "`indexctl files`?")])
+    ("owner list x", "`indexctl case list`?"), ("file show x", "`indexctl files`?"), ("show x", "`indexctl status`?"),
+    ("list", "`indexctl names`, `indexctl files` or `indexctl releases`?"), ("publish x", "`indexctl upload`?"),
+    ("login", "`indexctl profile --help`, which says where your token stands?"),
+    ("download x", "`python3 -m pip download`?"), ("install x", "`python3 -m pip install`?")])
 def test_a_command_that_is_none_is_answered_by_one_that_is(capsys, words, said):
     with pytest.raises(SystemExit) as end:
         parsers(COMMANDS)[0].parse_args(words.split())
     told = capsys.readouterr().err
     assert end.value.code == 2 and "invalid choice" in told and told.endswith(f" Did you mean {said}\n"), told
+
+
+@pytest.mark.parametrize("words, said", [
+    ("upload x --skip-existing", "--skip-existing. A file that is there with the same bytes is no error: leave it "
+                                 "out."),
+    ("upload x --repository-url=https://x/legacy/", "INDEX_URL names the index."),
+    ("upload --repository x y", "`--profile NAME` names another index."), ("upload --nothing x", "--nothing"),
+    ("upload -u ann -p x", "a token. The token stands in INDEX_TOKEN, or in the file that the profile names.")])
+def test_an_option_that_is_none_is_told_by_the_command_s_own_usage(capsys, words, said):
+    with pytest.raises(SystemExit) as end:
+        parsers(COMMANDS)[0].parse_args(words.split())
+    told = capsys.readouterr().err
+    assert end.value.code == 2 and told.startswith("usage: indexctl upload [-h]") and told.endswith(f"{said}\n"), told
+
+
+@pytest.mark.parametrize("words, found", [
+    ("release yank frob --reason x 1.0", {"name": "frob", "releases": ["1.0"]}),
+    ("files frob --json spam ham", {"names": ["frob", "spam", "ham"]})])
+def test_further_words_may_stand_behind_an_option(words, found):
+    args = vars(parsers(COMMANDS)[0].parse_args(words.split()))
+    assert {key: args[key] for key in found} == found
+
+
+@pytest.mark.parametrize("words", ["names frob", "status a b", "whoami x", "owner add a b --x", "help --x"])
+def test_a_word_too_much_is_refused(capsys, words):
+    with pytest.raises(SystemExit) as end:
+        parsers(COMMANDS)[0].parse_args(words.split())
+    assert end.value.code == 2 and "unrecognized arguments" in capsys.readouterr().err
+
+
+@pytest.mark.parametrize("alias, path", [("info frob", "status frob"), ("whoami", "token check"),
+                                         ("whoami --json", "token check --json")])
+def test_a_word_that_people_know_is_the_command(alias, path):
+    def said(words):
+        found = vars(parsers(COMMANDS)[0].parse_args(words.split()))
+        return {key: found[key] for key in found if key not in ("noun", "verb", "parser")}
+    assert said(alias) == said(path)
+
+
+@pytest.mark.parametrize("words, usage", [("help release yank", "indexctl release yank [-h]"),
+                                          ("help case", "indexctl case [-h]"), ("help", "indexctl [-h] [--version]"),
+                                          ("help whoami", "indexctl whoami [-h]")])
+def test_help_is_a_word_too(run, capsys, words, usage):
+    with pytest.raises(SystemExit) as end:
+        run(*words.split())
+    assert end.value.code == 0 and capsys.readouterr().out.startswith(f"usage: {usage}")
+
+
+def test_the_version_is_a_word_too(run, capsys):
+    run("version")
+    run("version", "--json")
+    assert capsys.readouterr().out == f'indexctl {VERSION}\n{{"version": "{VERSION}"}}\n'
+
+
+@pytest.mark.parametrize("words, found", [
+    ("fr", ["Frob", "frost-bite"]), ("FROST_B", ["frost-bite"]), ("bite fro", ["frost-bite"]), ("x", [])])
+def test_a_search_lists_the_names_that_have_each_word(run, capsys, words, found):
+    run.names = [held("frob", shown="Frob"), held("frost-bite"), held("spam")]
+    run.put("listed_names", lambda _: ["frob", "frost-bite", "spam"])
+    run.put("standings_of", lambda _, names: (it for it in run.names if it.name in names))
+    assert run("search", *words.split(), "--json") == 0
+    assert [row["name"] for row in json.loads(capsys.readouterr().out)] == found
+
+
+def test_a_search_for_a_misspelt_name_finds_what_was_meant(run, capsys):
+    run.put("listed_names", lambda _: ["frob", "spam"])
+    run.put("standings_of", lambda _, names: iter(names))
+    assert run("search", "forb") == 0
+    assert capsys.readouterr().err == "No name has that. Did you mean `frob`?\nnone\n"
 
 
 @pytest.mark.parametrize("words", ["strawberry", "case attempt x nobody", "who", "user frobnicate x"])
@@ -50,14 +125,41 @@ def test_a_slip_in_a_size_is_told_before_the_index_is_asked(run, size):
 
 @pytest.mark.parametrize("reason, said", [("x" * 513, "512 bytes at most, and this one has 513"),
                                           ("\u00e9" * 257, "has 514"), ("a\nb", "is one line"), ("a\tb", "is one line"),
-                                          ("a\x85", "is one line"), ("gr\udcf6", "no text in the coding of your")])
+                                          ("a\x85", "is one line"), ("gr\udcf6", "no text in the coding of your"),
+                                          ("a\ufffe", "no noncharacter"), ("\ufdd0", "no noncharacter"),
+                                          ("\ufdef", "no noncharacter"), ("\U0010ffff", "no noncharacter")])
 def test_a_reason_that_the_index_would_refuse_is_told(run, reason, said):
     assert said in told(run, "release", "yank", "frob", "1.0", "--reason", reason)
 
 
-@pytest.mark.parametrize("reason", ["x" * 512, "\u00e9" * 256, "", "loses <data> \U0001f4a5"])
+@pytest.mark.parametrize("reason", ["x" * 512, "\u00e9" * 256, "", "loses <data> \U0001f4a5", "\ufdcf\ufdf0\ufffd"])
 def test_any_other_reason_goes_out(run, reason):
     assert run.asked("release", "yank", "frob", "1.0", "--reason", reason)[0]["reason"] == reason
+
+
+RELEASES = {
+    "frob 1.0": [("frob", "1.0")], "frob 1.0 1.1": [("frob", "1.0"), ("frob", "1.1")],
+    "frob==1.0": [("frob", "1.0")], "frob==1.0 spam==2!1": [("frob", "1.0"), ("spam", "2!1")]}
+
+
+@pytest.mark.parametrize("verb", ["yank", "unyank"])
+@pytest.mark.parametrize("words", RELEASES)
+def test_releases_are_named_as_people_name_them(run, verb, words):
+    rows = run.asked("release", verb, *words.split())
+    assert [(row["do"], row["name"], row["release"]) for row in rows] == [(verb, *it) for it in RELEASES[words]]
+
+
+@pytest.mark.parametrize("words", ["frob", "frob==", "frob==1.0 spam", "frob spam==1.0", "frob==1.0 1.1", "frob===1.0"])
+@pytest.mark.parametrize("verb", ["yank", "unyank", "delete"])
+def test_a_release_that_is_not_named_is_told(run, verb, words):
+    assert "Name a release: `frob 1.0`" in told(run, "release", verb, *words.split())
+
+
+@pytest.mark.parametrize("path", ["dist/frob-1.0.tar.gz", "C:\\dist\\frob-1.0.tar.gz", "./frob-1.0.tar.gz",
+                                  "https://packages.example/files/frob/frob-1.0.tar.gz"])
+@pytest.mark.parametrize("verb, do", [("delete", "delete"), ("ban", "ban_file")])
+def test_a_file_may_be_named_by_its_path(run, verb, do, path):
+    assert run.asked("file", verb, path) == [{"do": do, "file": "frob-1.0.tar.gz"}]
 
 
 def test_an_address_of_several_indexes_tells_of_no_token(run):

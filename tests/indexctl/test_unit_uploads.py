@@ -11,6 +11,7 @@ import zipfile
 import pytest
 from indexctl import uploads
 from indexctl.ends import WRONG, Stop
+from indexctl.terminal import say_row
 from indexctl.uploads import File
 
 TEXT = "Metadata-Version: 2.1\nName: Frob\nVersion: 1.0\n"
@@ -122,11 +123,28 @@ def test_another_version_inside_is_told(tmp_path, capsys, version, is_told):
     assert ("the version inside is" in capsys.readouterr().err) == is_told
 
 
-@pytest.mark.parametrize("name", ["frob.whl", "frob-1.0.zip", "x" * 250 + "-1.0.tar.gz"])
+@pytest.mark.parametrize("name", ["frob.whl", "frob-1.0.7z", "x" * 250 + "-1.0.tar.gz"])
 def test_a_name_of_another_kind_is_refused(name):
     with pytest.raises(Stop, match="not the name of a wheel or of a .tar.gz") as end:
         File(name)
     assert end.value.status == WRONG
+
+
+@pytest.mark.parametrize("name", ["frob-1.0.zip", "frob-1.0-py3.8.egg", "frob-1.0.tar.bz2", "frob-1.0.tar.xz"])
+def test_of_another_archive_it_is_told_what_the_index_takes(name):
+    with pytest.raises(Stop, match=r"takes .whl and .tar.gz alone. `python3 -m build` makes both.") as end:
+        File(name)
+    assert end.value.status == WRONG
+
+
+def test_of_a_version_with_a_hyphen_it_is_told_how_to_write_it(tmp_path):
+    """setuptools wrote such names: a new build of the same version would have the same."""
+    with pytest.raises(Stop, match="its version has a hyphen.*such as 1.0b1 for 1.0-beta1"):
+        File(source(tmp_path, "frob-1.0-beta1.tar.gz", TEXT.replace("1.0", "1.0-beta1")))
+    with pytest.raises(Stop, match="the name inside is 'Frob'. The file name decides"):
+        File(source(tmp_path, "frobber-1.0.tar.gz"))
+    with pytest.raises(Stop, match="the name inside is ''"):
+        File(source(tmp_path, "frob-1.0.tar.gz", "Version: 1.0\n"))
 
 
 def test_of_a_folder_wheels_and_archives_are_taken_in_their_order(tmp_path, capsys, monkeypatch):
@@ -195,7 +213,7 @@ def test_a_source_archive_that_is_not_compressed_by_gzip_is_refused(tmp_path, mo
         entry = tarfile.TarInfo("frob-1.0/PKG-INFO")
         entry.size = len(TEXT)
         made.addfile(entry, io.BytesIO(TEXT.encode()))
-    with pytest.raises(Stop, match="frob-1.0.tar.gz: it can't be read: not a gzip file"):
+    with pytest.raises(Stop, match="frob-1.0.tar.gz: it can't be read: Not a gzipped file"):
         uploads.files_of([str(tmp_path)])
 
 
@@ -224,6 +242,9 @@ class FakeDesk:
     def send(self, what, row, request):
         self.sent.append((row, request))
         return self.left.pop(0)
+
+    def say(self, text, row=None):
+        say_row(False, text, row)
 
     def change(self, what, row):
         self.claimed.append((row["do"], row["name"]))

@@ -10,7 +10,7 @@ import subprocess
 import tempfile
 import time
 from contextlib import contextmanager
-from typing import Any, Dict, Iterator, List, Optional, Tuple
+from typing import Any, Dict, Iterator, List, Optional, Set, Tuple
 
 from support.indexctl.page import browser
 
@@ -132,10 +132,26 @@ class Page:
         assert "exceptionDetails" not in found, found
         return found["result"].get("value")
 
+    def until(self, script: str) -> bool:
+        """Waits until a script says true, and then says so."""
+        until = time.monotonic() + PATIENCE
+        while not self.value(script):
+            if time.monotonic() > until:
+                return False
+            time.sleep(0.02)
+        return True
+
     @property
     def asked(self) -> List[str]:
         urls = [it["request"]["url"] for it in self.those("Network.requestWillBeSent")]
         return [it for it in urls if not it.startswith("data:")]
+
+    def received(self) -> Set[str]:
+        """The addresses that were really asked, and not held back by a policy."""
+        urls = {it["requestId"]: it["request"]["url"] for it in self.those("Network.requestWillBeSent")}
+        held = {it["requestId"] for it in self.those("Network.loadingFailed") if it.get("blockedReason")}
+        # the browser's own page in the place of what was held back has images in itself
+        return {url for key, url in urls.items() if key not in held and not url.startswith("data:")}
 
     @property
     def console(self) -> List[str]:

@@ -7,11 +7,12 @@ from indexctl.command_line import parsers
 from indexctl.commands import COMMANDS
 from indexctl.ends import REFUSED
 from indexctl.standings import Standing
+from indexctl.terminal import say_row
 
 from support.indexctl.rows import SETTING
 
 MODULES = [importlib.import_module(f"indexctl.commands.{it}") for it in (
-    "tokens", "users", "names", "files", "listings", "contents", "cases", "work")]
+    "tokens", "users", "names", "files", "releases", "listings", "contents", "cases", "work")]
 FREE = Standing("free", "free", given={"name": "free", "state": "free"})
 
 
@@ -20,9 +21,12 @@ class FakeDesk:
 
     def __init__(self, refuses=(), users=("ann", "bob"), caller="office"):
         self.asked, self.refuses, self.users, self.refused, self.user = [], refuses, users, 0, "me"
-        self.index, self.setting, self.is_caller = self, SETTING, caller
+        self.index, self.setting, self.is_caller, self.is_json = self, SETTING, caller, False
 
-    def change(self, what, row, token=None, more=None):
+    def say(self, text, row=None):
+        say_row(self.is_json, text, row)
+
+    def change(self, what, row, token=None, more=None, shown=None):
         self.asked.append({**row, **({"token": token} if token else {}), **(more or {})})
         is_so = row["do"] not in self.refuses
         self.refused += not is_so
@@ -60,6 +64,8 @@ class Run:
         self.put("confirm_on_terminal", lambda args, said: self.shown.append(said))
         self.put("find_contents", self.listed_files)
         self.put("not_held", lambda _, name: f"Nobody holds {name}.")
+        self.looked = []
+        self.put("tell_served", lambda _, files: self.looked.extend(files))
 
     def put(self, name, made):
         for it in MODULES:

@@ -14,9 +14,24 @@ TURNED = "\u202e"
 SUMMARY = f"Sends & receives {MARKUP}{TURNED} messages"
 REASON = f"loses <data>; nimm 2.0 \u2013 {MARKUP}"
 # what a wheel says of itself, with a home page that would run a script first
+DESCRIPTION = f"""# Fjord
+
+{MARKUP}
+<img src="https://elsewhere.example/badge.png" alt="built">
+<img src="data:image/png;base64,AAAA" onerror="document.title = 'taken'">
+[run](javascript:document.title='taken') and <b id="find" onclick="document.title = 'taken'">bold</b>
+<iframe src="https://elsewhere.example/"></iframe><link rel="stylesheet" href="https://elsewhere.example/x.css">
+
+| of | a table |
+|----|---------|
+| in | {TURNED}x |
+"""
 HEADERS = (f"Summary: {SUMMARY}\nHome-page: javascript:document.title='taken'\n"
            "Project-URL: Home Page, https://fjord.example/?a=\"><b>\nLicense: MIT\n"
-           "Classifier: License :: OSI Approved :: BSD License\n")
+           "Project-URL: Source & more, https://git.example/fjord\n"
+           "Classifier: License :: OSI Approved :: BSD License\n"
+           "Requires-Dist: Ember.Cache >=1; python_version < '3.9'\nRequires-Dist: requests\n"
+           f"Description-Content-Type: text/markdown\n\n{DESCRIPTION}")
 
 
 def wheel_of(name: str, version: str, headers: str = HEADERS) -> bytes:

@@ -9,6 +9,8 @@ import threading
 from contextlib import contextmanager
 from typing import Any, Callable, Dict, Iterator, List, Optional, Tuple
 
+from support.model.pages import JSON_1, page_of_names
+
 # a status, a type, a body and perhaps headers; None resets the connection
 Answer = Optional[Tuple[Any, ...]]
 Answers = Callable[..., Answer]
@@ -98,4 +100,5 @@ def standing_of(path: str, **more: object) -> Tuple[int, str, bytes]:
 
 def list_of(count: int) -> Tuple[int, str, bytes]:
     """A list of so many names."""
-    return as_json({"meta": {"api-version": "1.1"}, "projects": [{"name": f"name-{at}"} for at in range(count)]})
+    names = [f"name-{at}" for at in range(count)]
+    return 200, "application/json", page_of_names([(name, name) for name in names], JSON_1).encode()
