@@ -116,6 +116,7 @@ class TestNothingIsLeft:
         assert_ends(backup(large, shell="ulimit -f 100000"), 1, "make room, or keep fewer")
         assert os.listdir(backups) == []
 
+    @pytest.mark.told("`index-backup` failed")
     def test_a_disk_that_is_full_meanwhile_ends_it(self, filled, backup, backups):
         # files of at most 40 blocks
         assert_ends(backup(filled.path, shell="ulimit -f 40"), 1, "index-backup: cp --reflink=auto")

@@ -3,6 +3,7 @@ import base64
 import json
 import os
 import re
+import time
 
 import pytest
 from support.running import run_command
@@ -13,6 +14,7 @@ from support.server.waits import wait_for
 from support.serving import accepted, sha256
 
 SECRET, OTHERS = "9f2d7c0b5e8a4163", "nobody's"
+IDENTIFIER = re.compile("[0-9a-f]{32}")
 MOMENT = re.compile(r"\d{4}-\d\d-\d\dT\d\d:\d\d:\d\d[+-]\d\d:\d\d")
 FILE = "/files/logged/logged-1.0.tar.gz"
 
@@ -58,6 +60,46 @@ def test_a_line_tells_when_and_from_where(lines):
     assert [it["from"] for it in lines if MOMENT.fullmatch(it["at"])] == ["127.0.0.1"] * 5
 
 
+KEYS = ["at", "id", "from", "user", "caller", "status", "reached", "took", "method", "path", "file", "body"]
+
+
+def test_a_line_has_all_its_keys(lines):
+    assert [list(it) for it in lines] == [KEYS] * 5
+
+
+def test_a_line_says_whether_an_index_got_the_request_and_how_long_it_took(front, kept_index):
+    """As seen by its client, whose body takes a second to come."""
+    begun = time.monotonic()
+    body = b'{"do":"claim","name":"slowly"}'
+    halves = (part for part, seconds in ((body[:9], 1), (body[9:], 0)) if not time.sleep(seconds))
+    assert front.ask("POST", "/requests", halves, X_Index_Token="office", Content_Length=str(len(body)))[0] == 200
+    seen = time.monotonic() - begun
+    logged(front, 1)
+    assert front.ask("POST", "/requests", iter([body]), X_Index_Token="office")[0] == 411
+    lines = logged(front, 2)
+    assert [(it["status"], it["reached"]) for it in lines] == [(200, True), (411, False)]
+    assert 0.5 < lines[0]["took"] <= seen + 0.1 and 0 <= lines[1]["took"] < 60, lines
+
+
+@pytest.mark.parametrize("method, path, status", [
+    ("POST", "/requests", 401), ("PUT", FILE, 401), ("DELETE", FILE, 401), ("POST", "/simple/", 405),
+    ("PUT", "/nowhere", 404)])
+@pytest.mark.told("a user names a failed request by its `X-Request-Id`")
+def test_a_line_has_the_id_that_the_reply_names(front, method, path, status):
+    body = b'{"do":"claim","name":"frob"}' if method == "POST" else b"x"
+    replied, headers, _ = front.ask(method, path, body, X_Index_Token=OTHERS, X_Index_SHA256=sha256(body))
+    assert replied == status and IDENTIFIER.fullmatch(headers["X-Request-Id"]), headers.items()
+    assert [it["id"] for it in logged(front, 1)] == [headers["X-Request-Id"]]
+
+
+@pytest.mark.parametrize("path", ["/", "/simple/", "/simple/none/", FILE, "/names/x", "/health", "/indexctl",
+                                  "/favicon.ico", "/legacy/", "/nowhere"])
+def test_each_reply_names_the_id_of_its_request(front, path):
+    replies = [front.ask("GET", path) for _ in range(2)]
+    seen = [headers.get_all("X-Request-Id") for _, headers, _ in replies]
+    assert all(len(it) == 1 and IDENTIFIER.fullmatch(it[0]) for it in seen) and seen[0] != seen[1], seen
+
+
 def test_no_line_has_a_token(lines, front):
     with open(f"{front.folder}/index-changes.log") as log:
         text = log.read()
@@ -70,6 +112,13 @@ def test_a_token_in_a_body_is_not_in_the_log(front, name, is_logged):
     body = json.dumps({"do": "claim", "name": name, **({} if is_logged else {"at": 1, "token": SECRET})})
     assert front.ask("POST", "/requests", body, X_Index_Token="office")[0] == (200 if name == "token" else 400)
     assert logged(front, 1)[-1]["body"] == (body if is_logged else "")
+
+
+@pytest.mark.parametrize("between", ['"token":', '"token" :', '"token"\t: ', '"token"\r\n:\r\n'])
+def test_a_token_in_a_body_is_not_in_the_log_however_it_is_laid_out(front, between):
+    """JSON may have blanks and ends of lines before a colon."""
+    front.ask("POST", "/requests", f'{{"do":"claim","name":"frob",{between}"{SECRET}"}}', X_Index_Token="office")
+    assert logged(front, 1)[-1]["body"] == ""
 
 
 def test_a_long_body_is_in_the_log(front):
@@ -88,6 +137,14 @@ def test_a_body_in_chunks_that_could_be_left_out_of_the_log_is_refused(front, pi
     assert_reply(sent, 411, "application/json", b'"NoLength"')
     assert b'"free"' in front.ask("GET", "/names/chunked")[2]
     assert logged(front, 1)[-1]["status"] == 411
+
+
+def test_a_search_by_pip_is_no_change(front):
+    """A replay, and who reads the log, would take it for an upload by twine."""
+    front.ask("POST", "/", "<methodCall/>", Content_Type="text/xml")
+    front.ask("POST", "/requests", "x", X_Index_Token="office")
+    assert logged(front, 1)[-1]["path"] == "/requests"
+    assert "/" not in {it["path"] for it in front.changes()}
 
 
 class TestReader:

@@ -5,6 +5,7 @@ import shutil
 import signal
 
 import pytest
+from support.needed import want_command
 from support.places import BIN
 from support.running import kill_after, run_command
 from support.server.restores import names_of
@@ -20,6 +21,7 @@ COMMANDS = {
 @pytest.fixture
 def made(program, folder):
     """A database whose log has a claim, and a folder for copies."""
+    want_command("sqlite3", "sqlite3")
     os.makedirs(f"{folder}/made/copies")
     kill_after(program, make_index(program, f"{folder}/made/index.db"),
                [b'{"at":1,"token":"office","do":"claim","name":"later"}\n'])

@@ -11,7 +11,7 @@ from support.places import SERVER
 from support.ports import free_port
 from support.running import run_command
 from support.server.expected import assert_ends
-from support.server.front import WORKERS, Front, has_ipv6, make_certificate
+from support.server.front import WORKERS, Front, has_ipv6, make_certificate, make_chain
 from support.server.manager import reload, workers
 from support.server.stand_ins import called, stand_ins
 from support.server.waits import wait_for
@@ -56,6 +56,7 @@ def test_an_nginx_that_answers_by_its_name_is_well(named):
     assert_ends(look(named), 0)
 
 
+@pytest.mark.told("nginx does not answer")
 def test_an_nginx_that_is_stopped_is_told_and_the_index_is_not_restarted(named, folder):
     named.process.terminate()
     named.process.wait()
@@ -69,6 +70,7 @@ def test_an_nginx_that_is_stopped_is_told_and_the_index_is_not_restarted(named, 
     assert called(f"{folder}/bin") == ""
 
 
+@pytest.mark.told("nginx does not answer")
 def test_an_nginx_that_hangs_is_told(named):
     assert wait_for(lambda: len(workers(named.process.pid)) == WORKERS)
     for child in [named.process.pid, *map(int, run_command(["pgrep", "-P", str(named.process.pid)]).stdout.split())]:
@@ -110,10 +112,12 @@ def test_the_unit_for_several_nginx_asks_each_and_reaches_no_other():
     assert re.findall(r"--room \S+", other) == rooms and "http://127.0.0.1:8080\n" in other
 
 
+@pytest.mark.told("the certificate has ended")
 def test_a_certificate_for_another_name_is_told(front):
     assert_ends(look(front), 10, f"nginx's certificate for {HOST}: Hostname mismatch")
 
 
+@pytest.mark.told("the certificate has ended")
 def test_a_certificate_that_has_ended_is_told(kept_index, certificate, folder):
     os.mkdir(f"{folder}/ended")
     made = make_certificate(f"{folder}/ended", f"DNS:{HOST}")
@@ -123,6 +127,7 @@ def test_a_certificate_that_has_ended_is_told(kept_index, certificate, folder):
         assert_ends(look(nginx), 10, f"nginx's certificate for {HOST}: certificate has expired")
 
 
+@pytest.mark.told("the certificate ends within 21 days")
 def test_a_certificate_that_ends_soon_is_told(named):
     assert_ends(look(named, "--days", "1.5"), 0)
     ended = look(named, "--days", "21")
@@ -132,9 +137,36 @@ def test_a_certificate_that_ends_soon_is_told(named):
     assert "--days 21\n" in unit("index-certificate.service") and "=1d\n" in unit("index-certificate.timer")
 
 
+@pytest.mark.told("nginx sends it without its chain")
+def test_a_certificate_without_its_chain_is_told(kept_index, certificate, folder):
+    """As after cert.pem in the place of fullchain.pem: a leaf that an intermediate authority has signed."""
+    chain = make_chain(f"{folder}/chain", HOST)
+    for shown, status, said in (("fullchain", 0, []), ("leaf", 10, ["does not lead to", "the whole chain"])):
+        os.makedirs(f"{folder}/{shown}")
+        shutil.copy(f"{chain}/key", f"{folder}/{shown}/key")
+        shutil.copy(f"{chain}/{shown}.pem", f"{folder}/{shown}/pem")
+        with Front(f"{folder}/front-{shown}", f"{folder}/{shown}/pem", kept_index.port) as nginx:
+            assert_ends(look(nginx, "--authority", f"{chain}/root.pem"), status, *said)
+            assert_ends(look(nginx), 0)
+    # as the unit's comment has it
+    text = unit("index-certificate.service")
+    assert '#   Environment="AUTHORITY=--authority /etc/ssl/certs/ca-certificates.crt"\n' in text
+    assert "\nEnvironment=AUTHORITY=\n" in text
+
+
+@pytest.mark.told("a disk and nginx at once")
+def test_little_room_hides_no_nginx_that_is_gone(named, folder):
+    named.process.terminate()
+    named.process.wait()
+    ended = look_until(11, lambda: look(named, "--room", folder, "--least", "99999999", patience="0.5"))
+    assert_ends(ended, 11, f"make room: {folder} has", f"nginx does not answer for {HOST}")
+
+
 def test_the_certificate_of_an_nginx_without_an_index_beside_it_is_looked_at(named):
     """As of two machines, behind nginx on a third; and on those two, which have no nginx, nothing is told."""
     words = re.search(r"^ExecStart=\S+ (.*)$", unit("index-certificate.service"), re.M)[1].split()
+    # (empty, if nobody names a file of authorities)
+    words.remove("$AUTHORITY")
     conf = words.index("/etc/nginx/conf.d/packages.conf")
     nobody = f"http://127.0.0.1:{free_port()}"
     words[conf] = f"{named.folder}/conf.d/packages.conf"
@@ -146,7 +178,7 @@ def test_the_certificate_of_an_nginx_without_an_index_beside_it_is_looked_at(nam
 def test_readers_that_need_a_password_are_no_fault_and_an_answer_of_another_kind_is(named):
     inner = f"{named.folder}/index/server.d/mine.conf"
     for text, status, said in (("auth_basic x; auth_basic_user_file /dev/null;", 0, ""),
-                               ("location ^~ /health { return 418; }", 10, f"answers https://{HOST}/health by 418")):
+                               ("location ^~ /health { return 410; }", 10, f"answers https://{HOST}/health by 410")):
         with open(inner, "w") as made:
             made.write(text)
         conf = f"{named.folder}/conf.d/packages.conf"

@@ -35,6 +35,7 @@ def test_an_index_that_answers_is_well_and_is_not_restarted(index, path, bin_fol
     assert called(bin_folder) == ""
 
 
+@pytest.mark.told("nobody listens for a minute")
 def test_an_index_that_is_away_is_waited_for_and_is_not_restarted(path, bin_folder):
     begun = time.monotonic()
     ended = look_at_health(path, "--patience", "3", f"http://127.0.0.1:{free_port()}")
@@ -43,12 +44,14 @@ def test_an_index_that_is_away_is_waited_for_and_is_not_restarted(path, bin_fold
     assert called(bin_folder) == ""
 
 
+@pytest.mark.told("the index fails")
 def test_an_index_that_fails_is_restarted(path, bin_folder):
     with Failed() as failed:
         assert_ends(look_at_health(path, failed.url), 8, "500", "Store")
     assert called(bin_folder) == RESTARTED
 
 
+@pytest.mark.told("the index fails")
 def test_a_silent_index_is_restarted(path, bin_folder):
     with socket.create_server(("127.0.0.1", 0)) as silent:
         ended = look_at_health(path, "--patience", "1", f"http://127.0.0.1:{silent.getsockname()[1]}")
@@ -60,6 +63,7 @@ def test_a_silent_index_is_restarted(path, bin_folder):
 DISK = """mount -t tmpfs -o size=1m none "$1" && shift && exec "$@" """
 
 
+@pytest.mark.told("a disk has little room")
 def test_a_disk_with_little_room_is_told_and_the_index_is_not_restarted(index, path, bin_folder, folder):
     small, url = f"{folder}/small", f"http://127.0.0.1:{index.port}"
     os.mkdir(small)
@@ -70,6 +74,20 @@ def test_a_disk_with_little_room_is_told_and_the_index_is_not_restarted(index, p
     assert_ends(look_at_health(path, *words, url, under=alone), 9, f"make room: {small} has 1 MiB left")
     assert_ends(look_at_health(path, *words, "--least", "1", url, under=alone), 0)
     assert called(bin_folder) == ""
+
+
+@pytest.mark.parametrize("was_there", [True, False])
+def test_what_a_look_did_not_come_to_stays_told(path, folder, was_there):
+    """While the index is gone, or fails, nobody looks at the disks; of several indexes another look may have found
+    little room."""
+    full = f"{folder}/full"
+    if was_there:
+        with open(full, "w"):
+            pass
+    with Failed() as failed:
+        assert_ends(look_at_health(path, failed.url, full=full), 8)
+    assert_ends(look_at_health(path, "--patience", "0.5", f"http://127.0.0.1:{free_port()}", full=full), 3)
+    assert os.path.exists(full) == was_there
 
 
 def rooms_of(text):

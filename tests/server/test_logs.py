@@ -85,6 +85,7 @@ def test_a_start_with_a_sound_log(logs):
 class TestDamaged:
     """A start with a damaged log is refused until the loss is accepted."""
 
+    @pytest.mark.told("the log of the database is damaged")
     def test_each_start_is_refused_and_both_files_are_kept_once(self, logs, damaged, looked):
         before = both(damaged)
         for _ in range(2):

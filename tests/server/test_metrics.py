@@ -10,6 +10,7 @@ from support.ports import free_port
 from support.running import run_command
 from support.server.expected import assert_ends
 from support.server.stand_ins import stand_ins, written
+from support.server.waits import wait_for
 from support.server.watched import METRICS, measured
 from support.serving import Index, accepted, make_index
 
@@ -42,7 +43,8 @@ def seen(program, words, path, folder):
     with Index(program, path=f"{folder}/index.db") as index:
         accepted(index.claim("frob"))
         accepted(index.upload("frob", "frob-1.0.tar.gz", b"new"))
-        found = measured([*words, "--url", f"http://127.0.0.1:{index.port}"], PATH=path)
+        found = measured([*words, "--url", f"http://127.0.0.1:{index.port}", "--state", f"{folder}/state", "--changes",
+                          f"{folder}/none"], PATH=path)
         found["sizes"] = [os.path.getsize(f"{folder}/index.db{end}") for end in ("", "-wal")]
     return found
 
@@ -84,7 +86,28 @@ def test_each_alarm_asks_for_what_is_written(seen):
     with open(f"{SERVER}/prometheus/index-alarms.yml") as kept:
         asked = set(re.findall(r"\bindex_[a-z_]+", kept.read()))
     assert len(asked) > 5
-    assert asked - {name.partition(",")[0] for name in seen} == set()
+    # (that of a unit is written where one looks, and of a follower where one runs)
+    assert asked - {name.partition(",")[0] for name in seen} == {"index_health_status", "index_uncache_behind_seconds"}
+
+
+def test_the_changes_that_nginx_passes_on_are_counted_by_kind_and_status_with_their_time(front, folder):
+    """Over two runs, each of which begins where the one before ended; those without a token don't reach the index."""
+    words = [f"{folder}/none.db", folder, "--url", "http://127.0.0.1:1", "--state", f"{folder}/state", "--changes",
+             f"{front.folder}/index-changes.log", "--bodies", f"{front.folder}/cache/index-bodies"]
+    accepted(front.claim("frob"))
+    accepted(front.upload("frob", "frob-1.0.tar.gz", b"new"))
+    assert wait_for(lambda: len(front.changes()) == 2)
+    assert measured(words)['index_changes_total,kind="upload",status="201"'] == 1
+    assert front.request(do="ban_file", file="other-1.0.tar.gz")[0] == 404
+    accepted(front.upload("frob", "frob-2.0.tar.gz", b"newer"))
+    assert wait_for(lambda: len(front.changes()) == 4)
+    found = measured(words)
+    counts = {name: value for name, value in found.items() if name.startswith("index_changes_total") and value}
+    assert counts == {'index_changes_total,kind="claim",status="200"': 1,
+                      'index_changes_total,kind="upload",status="201"': 2,
+                      'index_changes_total,kind="ban_file",status="404"': 1}
+    assert [found[f'index_change_seconds_count,of="{it}"'] for it in ("uploads", "others")] == [2, 2]
+    assert 0 < found['index_change_seconds_sum,of="uploads"'] < 60 and found["index_bodies_bytes"] == 0
 
 
 def test_an_index_that_is_down_is_written_for_all_to_read(words, path, folder):

@@ -4,6 +4,7 @@ The tests of one life share a root, in which each step is taken once: the first 
 before it."""
 from __future__ import annotations
 
+import json
 import os
 import re
 import shutil
@@ -88,9 +89,14 @@ def test_each_file_for_nginx_has_its_original_there(paths):
     assert {f"usr/share/package-index/{it}" for it in os.listdir(f"{SERVER}/nginx")} <= paths
 
 
+def test_what_names_callers_and_what_rotates_their_log_is_in_it(paths):
+    assert {"etc/nginx/index/callers.conf", "etc/nginx/index/callers.js", "etc/logrotate.d/package-index"} <= paths
+
+
 def test_what_changed_is_in_it(paths):
-    """Whoever upgrades has to go by it, and may have the package alone."""
+    """Whoever upgrades has to go by it, and may have the package alone. What was before is not in it."""
     assert "usr/share/package-index/CHANGELOG.md" in paths
+    assert not [it for it in paths if "CHANGES-TO" in it]
 
 
 def test_all_pages_of_docs_are_in_it(paths, looked):
@@ -99,6 +105,17 @@ def test_all_pages_of_docs_are_in_it(paths, looked):
             path = os.path.relpath(f"{folder}/{name}", f"{TOP}/docs")
             looked(f"usr/share/doc/package-index/{path}" in paths, path)
     looked("usr/share/doc/package-index/changelog.gz" in paths, "changelog.gz")
+
+
+def test_the_notices_of_others_are_in_it_and_the_list_of_its_parts_is_beside_it(package, package_folder, looked):
+    run_command(["dpkg-deb", "--extract", package, f"{package_folder}/notices"])
+    with open(f"{package_folder}/notices/usr/share/doc/package-index/copyright", encoding="utf-8") as kept:
+        text = kept.read()
+    for holder in ("Sean McArthur", "The RustCrypto Project Developers", "Julien Schmidt", "Danny Guo"):
+        looked(holder in text, holder)
+    with open(package.removesuffix(".deb") + ".cdx.json", encoding="utf-8") as kept:
+        names = {it["name"] for it in json.load(kept)["components"]}
+    looked({"index_rules", "clap", "strsim", "std"} <= names, names)
 
 
 def test_each_command_has_a_man_page(paths):

@@ -7,10 +7,20 @@ from support.server.stranger import Stranger
 from support.serving import JSON_PAGE, accepted
 
 
+# what a client sends with each request to a host, and PyPI is another one
+SECRETS = {"X_Index_Token": "9f2d7c0b5e8a4163", "Authorization": "Basic cmVhZGVyOjRhNmI=", "Cookie": "session=7e21"}
+
+
 @pytest.fixture
-def beside(kept_index, certificate, folder):
+def pypi():
+    with Stranger() as stranger:
+        yield stranger
+
+
+@pytest.fixture
+def beside(kept_index, certificate, folder, pypi):
     """nginx in front of the index, which holds frob, and of what stands for PyPI."""
-    with Stranger() as pypi, Front(f"{folder}/pypi", certificate, kept_index.port, pypi=pypi.port) as front:
+    with Front(f"{folder}/pypi", certificate, kept_index.port, pypi=pypi.port) as front:
         accepted(kept_index.claim("frob"))
         accepted(kept_index.upload("frob", "frob-1.0.tar.gz", b"ours"))
         yield front
@@ -18,6 +28,12 @@ def beside(kept_index, certificate, folder):
 
 def test_a_name_that_nobody_holds_is_pypis(beside):
     assert_reply(beside.ask("GET", "/simple/other/"), 200, "text/html", b"a stranger's")
+
+
+def test_no_secret_of_a_client_goes_to_pypi(beside, pypi):
+    assert beside.ask("GET", "/simple/other/", **SECRETS)[0] == 200
+    sent = [value for asked in pypi.asked for value in asked.values()]
+    assert sent and not {*sent} & {*SECRETS.values()}, sent
 
 
 def test_a_name_that_we_hold_is_ours_alone(beside):

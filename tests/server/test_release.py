@@ -2,6 +2,7 @@
 from __future__ import annotations
 
 import os
+from collections.abc import Iterator
 
 import pytest
 from support.needed import want_command
@@ -12,15 +13,18 @@ from support.server.stand_ins import written
 
 pytestmark = [pytest.mark.slow, pytest.mark.xdist_group("release"), pytest.mark.timeout(600)]
 PROGRAM, PACKAGE = f"index-{VERSION}-amd64", f"package-index_{VERSION}_amd64.deb"
-NAMES = (PROGRAM, "indexctl", PACKAGE)
+NAMES = ("NOTICES.txt", PROGRAM, "indexctl", f"package-index_{VERSION}_amd64.cdx.json", PACKAGE)
 
 
 @pytest.fixture(scope="session")
-def releases(tmp_path_factory: pytest.TempPathFactory) -> Releases:
+def releases(tmp_path_factory: pytest.TempPathFactory) -> Iterator[Releases]:
     for command, package in (("dh", "debhelper"), ("dpkg-buildpackage", "dpkg-dev"), ("help2man", "help2man"),
-                             ("make", "make"), ("strip", "binutils"), ("cc", "gcc"), ("git", "git")):
+                             ("make", "make"), ("strip", "binutils"), ("cc", "gcc"), ("git", "git"),
+                             ("gpg", "gnupg")):
         want_command(command, package)
-    return Releases(str(tmp_path_factory.mktemp("release")))
+    made = Releases(str(tmp_path_factory.mktemp("release")))
+    yield made
+    made.end()
 
 
 def test_a_release_ends_with_the_command_that_makes_its_tag(releases):
@@ -99,3 +103,15 @@ def test_a_folder_that_was_made_meanwhile_is_left_as_it_is(releases):
 def test_a_release_of_a_program_that_is_built_is_the_same(releases):
     assert_ends(releases.of_a_program, 0, f" {TAG} {releases.commit}\n")
     assert releases.sums("first") and releases.sums("first") == releases.sums("built")
+
+
+def test_a_signed_release_is_checked_by_the_key_alone(releases):
+    assert_ends(releases.signed, 0, f" {TAG} {releases.commit}\n")
+    folder, keys = f"{releases.folder}/signed", {"GNUPGHOME": releases.keys}
+    verify = ["gpg", "--verify", f"{folder}/SHA256SUMS.asc", f"{folder}/SHA256SUMS"]
+    assert "Good signature" in run_command(verify, **keys).stdout
+    with open(f"{folder}/SHA256SUMS", "a", encoding="utf-8") as sums:
+        sums.write("more\n")
+    assert_ends(run_command(verify, **keys), 1, "BAD signature")
+    assert_ends(releases.refused["a key that is not there"], 1, "gpg has no secret key nobody@example.org")
+    assert not os.path.exists(releases.none)

@@ -78,6 +78,7 @@ class TestRefused:
 
     @pytest.mark.parametrize("what", [it if it in QUICK_COPIES else pytest.param(it, marks=pytest.mark.slow)
                                       for it in WRONG_COPIES])
+    @pytest.mark.told("`index-restore`")
     def test_a_wrong_copy(self, by, what):
         copy, said = WRONG_COPIES[what]
         assert_ends(by.run(copy(by), shell=LIMIT), 1, said)

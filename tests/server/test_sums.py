@@ -90,6 +90,7 @@ class TestRefused:
         assert_ends(reseal(old), 1, "there already")
         assert bytes_of(there.name) == [b"mine"]
 
+    @pytest.mark.told("`index-restore`")
     def test_a_wrong_row(self, old, reseal, folder):
         with closing(sqlite3.connect(old)) as database, database:
             database.execute("UPDATE files SET rel = '2' WHERE rel = '1.0rc1'")

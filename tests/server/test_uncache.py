@@ -35,6 +35,7 @@ def test_nginx_has_a_banned_file_until_it_is_taken_out(cached, uncache):
     assert_reply(cached.ask("GET", BANNED), 404, None, b"NoFile")
 
 
+@pytest.mark.told("`index-uncache` finds nothing")
 def test_a_file_that_is_not_there_ends_with_status_1_and_tells_the_others(uncache, looked):
     ended = uncache("frob", "frob-8.tar.gz")
     assert_ends(ended, 1, "nginx keeps no /files/frob/frob-8.tar.gz", *OTHERS[1:])
@@ -58,5 +59,6 @@ def test_all_files_of_a_project_go_at_once(cached, uncache):
     assert [cached.ask("GET", f"/files/frob/{file}")[0] for file in OTHERS[1:]] == [404, 404]
 
 
+@pytest.mark.told("`index-uncache` finds nothing")
 def test_a_folder_that_is_not_there_is_told(cached, uncache):
     assert_ends(uncache("frob", cache=f"{cached.folder}/none"), 2, "is not there")

@@ -175,6 +175,26 @@ def test_the_second_time_is_for_a_reply_that_was_under_way(monkeypatch, tmp_path
     assert (tmp_path / "removed").read_text() == f"{line}\n"
 
 
+def test_its_place_moves_on_while_files_are_still_to_be_taken_out_once_more(monkeypatch, tmp_path):
+    """So one that removes for hours does not seem to hang; and a run that follows takes out again what this did not."""
+    line = json.dumps({"status": 200, "method": "DELETE", "path": "/files/a/a-1.zip", "body": ""})
+    now, kept = [100.0], []
+
+    def lines(*_):
+        for at in range(1, 5):
+            yield line, followed.Place(1, at, "0")
+            yield "", followed.Place(1, at, "0")
+            now[0] += 3
+
+    monkeypatch.setattr(FOLLOW, "lines_from", lines)
+    monkeypatch.setattr(FOLLOW, "take_out", lambda *_: None)
+    monkeypatch.setattr(FOLLOW.time, "monotonic", lambda: now[0])
+    monkeypatch.setattr(FOLLOW, "keep_place", lambda path, place: kept.append((now[0], place.read)))
+    FOLLOW.follow(FOLLOW.argparse.Namespace(place=f"{tmp_path}/place", log="x", cache="y", again=5, front=None))
+    # at 106 that of the line of 100 was taken out twice, and that of 103 was not
+    assert kept == [(106.0, 1), (109.0, 2)]
+
+
 def test_a_full_disk_keeps_nothing_in_the_cache_and_is_told_before_the_place_is_kept(monkeypatch, tmp_path):
     lines = [json.dumps({"status": 200, "method": "DELETE", "path": f"/files/a/a-{it}.zip"}) for it in "123"]
     read = [(line, followed.Place(1, 9, "0")) for line in [*lines, "", ""]]
@@ -239,6 +259,7 @@ def test_a_line_that_can_not_be_read_is_told_without_a_body(capsys):
     assert capsys.readouterr().err == f"index-uncache-follow: passed over, since it can't be read: {line[:120]}\n"
 
 
+@pytest.mark.told("`index-uncache-follow` can't read or write")
 def test_a_file_that_can_not_be_taken_out_is_told_and_tried_again(tmp_path):
     """As one of another user: the place stays before the line."""
     make_cache(str(tmp_path / "cache"), [("a", "b")])

@@ -1,4 +1,5 @@
 """What index-alarms keeps from look to look."""
+import json
 import types
 
 import pytest
@@ -23,17 +24,53 @@ def test_the_looks_of_a_day_are_kept_in_their_order():
     assert [it.at for it in ALARMS.after(ALARMS.State(0, day, {}), look(NOW), []).day] == [NOW - DAY, NOW - 5, NOW]
 
 
-@pytest.mark.parametrize("raised, kept", [({}, NOW), ({"disk": NOW - 5}, NOW - 5), ({"disk": NOW - DAY + 1},
-                                                                                    NOW - DAY + 1),
-                                          ({"disk": NOW - DAY}, NOW), ({"disk": NOW + 5}, NOW),
-                                          ({"clock": NOW - 5}, NOW)])
-def test_an_alarm_is_raised_again_after_a_day_or_if_its_moment_is_later_than_now(raised, kept):
+def raised(at, seen=NOW - 5, text="before"):
+    return ALARMS.Raised(at, seen, text)
+
+
+@pytest.mark.parametrize("before, kept", [
+    ({}, NOW), ({"disk": raised(NOW - 5)}, NOW - 5), ({"disk": raised(NOW - DAY + 1)}, NOW - DAY + 1),
+    ({"disk": raised(NOW - DAY)}, NOW), ({"disk": raised(NOW + 5)}, NOW), ({"clock": raised(NOW - 5)}, NOW)])
+def test_an_alarm_is_raised_again_after_a_day_or_if_its_moment_is_later_than_now(before, kept):
     found = [ALARMS.Alarm("disk", text) for text in ("a", "b")]
-    assert ALARMS.after(ALARMS.State(0, [], raised), look(NOW), found).raised == {"disk": kept}
+    assert ALARMS.after(ALARMS.State(0, [], before), look(NOW), found).raised == {"disk": raised(kept, NOW, "b")}
 
 
-def test_an_alarm_that_is_over_is_forgotten():
-    assert ALARMS.after(ALARMS.State(0, [], {"disk": NOW - 5}), look(NOW), []).raised == {}
+@pytest.mark.parametrize("kind, seen, said", [
+    ("disk", 599, []), ("disk", 600, ["over: before"]), ("disk", -1, ["over: before"]), ("clock", 5, []),
+    ("restarts", 9999, [])])
+def test_an_alarm_is_over_once_it_is_gone_for_ten_minutes_and_an_event_never_is(kind, seen, said):
+    """One that comes and goes each other minute is the same alarm, and no mail each time."""
+    before = ALARMS.State(0, [], {kind: raised(NOW - 9000, NOW - seen)})
+    kept = ALARMS.after(before, look(NOW), [])
+    assert ALARMS.over(before, kept) == said and (kind in kept.raised) == (not said and kind == "disk")
+
+
+def test_looks_that_are_kept_are_ten_minutes_apart_but_for_the_last():
+    state = ALARMS.State(0, [], {})
+    for minute in range(25):
+        state = ALARMS.after(state, look(NOW + 60 * minute), [])
+    assert [(it.at - NOW) / 60 for it in state.day] == [0, 10, 20, 24]
+
+
+@pytest.mark.parametrize("ups, then", [([5e6 - 60], 5e6 - 60), ([5e6 - 1200, 5e6 - 600, 5e6 - 60], 5e6 - 600),
+                                       ([5e6 - 1200, 5e6 - 60], 5e6 - 1200), ([], 5e6)])
+def test_restarts_are_counted_over_ten_minutes_of_one_start_of_the_machine(ups, then):
+    other = look(NOW - 3000)._replace(boot="b", up=5e6 - 3000)
+    assert ALARMS.earlier([other, *(look(NOW)._replace(up=it) for it in ups)], look(NOW)).up == then
+
+
+def test_the_state_of_an_older_version_is_read(tmp_path):
+    (tmp_path / "state").write_text('{"begun": 5, "day": [[1, "a", 2, {}, {}]], "raised": {"disk": 7}}')
+    assert ALARMS.read(str(tmp_path / "state"), NOW) == ALARMS.State(
+        5, [ALARMS.looks.Look(1, "a", 2, {}, {})], {"disk": ALARMS.Raised(7, 7, "")})
+
+
+def test_what_is_kept_is_read_again(tmp_path):
+    kept = ALARMS.State(5, [look(NOW)], {"disk": raised(7)},
+                        ALARMS.Tally(ALARMS.Place(3, 4, "5e"), {"33": [1, 2, 3]}), {"index.service": 9.0})
+    (tmp_path / "state").write_text(json.dumps(kept._asdict()))
+    assert ALARMS.read(str(tmp_path / "state"), NOW) == kept
 
 
 def test_restarts_are_whole_numbers_by_their_units(monkeypatch):
@@ -49,6 +86,8 @@ def test_a_late_backup_is_told_where_the_index_is(monkeypatch, tmp_path, is_shar
     """The one of two machines that waits has no disk of the index, and so it makes no copies."""
     monkeypatch.setattr(two_machines, "DROP_IN", str(tmp_path / ("" if is_shared else "none")))
     monkeypatch.setattr(two_machines, "FOLDER", "/" if is_mounted else str(tmp_path))
-    words = types.SimpleNamespace(backups=str(tmp_path), changes=str(tmp_path / "changes.log"))
+    monkeypatch.setattr(ALARMS, "off", lambda _: [])
+    words = types.SimpleNamespace(backups=str(tmp_path), changes=f"{tmp_path}/log", nginx=f"{tmp_path}/none",
+                                  place=f"{tmp_path}/place")
     found = ALARMS.alarms(words, ALARMS.State(NOW - 9 * DAY, [], {}), look(NOW))
     assert [it.kind for it in found] == kinds

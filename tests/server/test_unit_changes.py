@@ -1,11 +1,16 @@
 """The changes since a copy, out of nginx's logs: which count, and in which order, without nginx."""
+import contextlib
 import datetime
 import gzip
 import json
 import os
+import sqlite3
+import subprocess
+import sys
 
 import pytest
-from support.library import changes
+from support.library import changes, copies
+from support.places import TOP
 
 UTC = datetime.timezone.utc
 
@@ -15,9 +20,11 @@ UTC = datetime.timezone.utc
     ('{"at":"2026-01-02T05:04:04+02:00"}', False), ('{"at":"2026-01-02T01:04:05-02:00"}', True),
     ('{"time":"2026-01-02T03:04:04+00:00"}', False), ('{"body":"no time"}', True), ("no JSON", True), ("[1]", True),
     ('{"at":"2026-01-01T00:00:00"}', True)])
-def test_a_change_counts_from_the_second_of_the_copy_on_and_without_a_time_too(line, is_since):
+def test_a_change_counts_from_the_second_of_the_copy_on_and_without_a_time_too(tmp_path, line, is_since):
     since = datetime.datetime(2026, 1, 2, 3, 4, 5, tzinfo=UTC)
-    assert (changes.moment_of(line, since) is not None) is is_since
+    (tmp_path / "changes.log").write_text(f"{line}\n")
+    log = changes.Log(f"{tmp_path}/changes.log", since, None)
+    assert [it for _, it in log.lines()] == [f"{line}\n"] * is_since and log.count == is_since
 
 
 def test_changes_come_oldest_first_from_rotated_logs(tmp_path):
@@ -54,10 +61,22 @@ def test_a_log_that_begins_after_the_copy_may_lack_what_came_before(tmp_path, fi
     assert said.endswith(f"oldest first.{wanted}")
 
 
+@pytest.mark.parametrize("text", ["", "torn\n"])
+@pytest.mark.told("a restore finds no line in the log of changes")
+def test_a_log_without_a_line_says_that_changes_are_elsewhere(tmp_path, text):
+    """That of a new machine: the package makes it empty."""
+    log = tmp_path / "changes.log"
+    log.write_text(text)
+    said = changes.changes_since([str(log)], datetime.datetime(2026, 1, 1, tzinfo=UTC), str(tmp_path / "made"))
+    assert said.endswith(f"\n   {log} has no line. If there were changes since then, they are missing, or in the log "
+                         "of another machine.")
+
+
 @pytest.mark.parametrize("moments, told", [
     (["03:16", "03:20", "02:25", "02:30"], ["02:25"]), (["03:10", "02:25", "03:16"], ["02:25"]),
     (["03:16", "02:15", "03:17", "02:16"], ["02:15", "02:16"]), (["03:10", "03:09"], []), (["03:20", "03:16"], []),
     (["03:00", "03:14", "03:16"], [])])
+@pytest.mark.told("a restore finds no line in the log of changes")
 def test_changes_of_after_a_clock_that_was_set_back_may_seem_older_than_the_copy_and_that_is_told(
         tmp_path, moments, told):
     """The copy is of 03:15, by a clock that was an hour ahead."""
@@ -68,6 +87,60 @@ def test_changes_of_after_a_clock_that_was_set_back_may_seem_older_than_the_copy
     said = changes.changes_since([files[1]], datetime.datetime(2026, 1, 1, 3, 15, tzinfo=UTC), f"{tmp_path}/made")
     found = [it.partition(" was set back to 2026-01-01 ")[2][:5] for it in said.split("\n   ") if "set back" in it]
     assert found == told, said
+
+
+@pytest.mark.parametrize("uploaded, last, is_told", [
+    ("30T10:00:00", '"status":201,"method":"PUT"', False), ("30T10:00:59", '"status":201,"method":"PUT"', False),
+    ("30T10:00:00", '"status":200,"method":"POST","path":"/legacy/"', False),
+    # nobody knows of such an upload, or it may have come another way
+    ("", '"status":201,"method":"PUT"', True), ("30T09:58:00", '"status":201,"method":"PUT"', True),
+    ("30T10:00:00", '"status":409,"method":"PUT"', True), ("30T10:00:00", '"status":200,"method":"DELETE"', True),
+    # it was there before the clock was set back
+    ("01T03:10:00", '"status":201,"method":"PUT"', True)])
+def test_a_clock_that_was_set_back_before_the_copy_was_made_is_not_told(tmp_path, uploaded, last, is_told):
+    """The clock went back from 03:20 to 02:25 on the first of a month. On the 30th came an upload that the copy has: so
+    it was made later, and what came since is later than it. Of the first day is one that came after the step, too."""
+    copy, log = f"{tmp_path}/index-20260131T031500Z.db", tmp_path / "changes.log"
+    upload = '"status":201,"method":"PUT"'
+    lines = ("01T03:10:00", upload), ("01T03:20:00", upload), ("01T02:25:00", '"status":200'), ("01T03:10:30", upload)
+    log.write_text("".join(f'{{"at":"2026-01-{at}+00:00",{text}}}\n' for at, text in (*lines, ("30T10:00:05", last))))
+    with contextlib.closing(sqlite3.connect(copy)) as db:
+        db.execute("CREATE TABLE names (last_upload)")
+        if uploaded:
+            moment = datetime.datetime.fromisoformat(f"2026-01-{uploaded}+00:00").timestamp()
+            db.executemany("INSERT INTO names VALUES (?)", [(int(moment),), (None,), (5,)])
+        db.commit()
+    since = datetime.datetime(2026, 1, 31, 3, 15, tzinfo=UTC)
+    said = changes.changes_since([str(log)], since, f"{tmp_path}/made", copies.latest_upload(copy))
+    assert (" was set back to 2026-01-01 02:25:00 UTC" in said) is is_told, said
+
+
+def test_a_log_that_is_compressed_otherwise_is_told(tmp_path):
+    (tmp_path / "changes.log").write_text('{"at":"2026-01-17T00:00:00+00:00"}\n')
+    (tmp_path / "changes.log.1.xz").write_bytes(b"\xfd7zXZ\n\n")
+    said = changes.changes_since([f"{tmp_path}/changes.log"], datetime.datetime(2026, 1, 1, tzinfo=UTC),
+                                 f"{tmp_path}/made")
+    told = f"\n   {tmp_path}/changes.log.1.xz: it is compressed, and not by gzip: no more of this log can be read\n"
+    assert said.startswith("nginx passed on 1 of them.") and told in said
+
+
+@pytest.mark.slow
+def test_logs_of_any_length_are_gathered_in_little_memory(tmp_path):
+    """Two of 32 MB each."""
+    script = """import datetime, re, sys
+from support.library import changes, copies
+sys.stdout.write(changes.changes_since(sys.argv[2:], datetime.datetime(2026, 1, 1, tzinfo=datetime.timezone.utc),
+                                       sys.argv[1]))
+print("", int(re.findall("VmHWM:\\s*(\\d+) kB", open("/proc/self/status").read())[0]) >> 10)"""
+    logs = [f"{tmp_path}/{it}.log" for it in "ab"]
+    line = json.dumps({"at": "2026-01-17T00:00:00+00:00", "body": "x" * 300}) + "\n"
+    for path in logs:
+        with open(path, "w", encoding="ascii") as made:
+            made.write(line * ((32 << 20) // len(line)))
+    ended = subprocess.run([sys.executable, "-B", "-c", script, f"{tmp_path}/made", *logs], stdout=subprocess.PIPE,
+                           text=True, check=True, env={**os.environ, "PYTHONPATH": f"{TOP}/tests"})
+    assert os.path.getsize(f"{tmp_path}/made") == sum(map(os.path.getsize, logs))
+    assert int(ended.stdout.split()[-1]) < 60, ended.stdout
 
 
 def test_changes_of_several_fronts_come_oldest_first(tmp_path):

@@ -57,6 +57,7 @@ def test_a_configuration_with_a_switch_for_each_machine_is_loaded_again_and_agai
     (switch("one two", type="external/null"), "one, two"), (switch("one two", type="fence_dummy"), "one, two"),
     (switch("one two", type="meatware"), "one, two"), (switch("onetwo"), "one, two"),
     (switch("one", name="plug"), "one, two")])
+@pytest.mark.told("`index-take`")
 def test_a_machine_without_a_power_switch_is_named_and_nothing_is_loaded(cluster, switches, lacks):
     cluster.put(made=cib(switches))
     assert f"no power switch is named for {lacks}, by pcmk_host_list" in refused(cluster)

@@ -60,6 +60,17 @@ def test_a_log_is_read_from_its_place_on_though_it_was_rotated_away(tmp_path, at
     assert followed.left_at(str(tmp_path / "x.log"), None) is None
 
 
+def test_a_change_that_was_refused_takes_nothing_out_and_is_no_line(tmp_path):
+    """But the place is behind it. Those of an attacker may be millions."""
+    lines = [f'{{"status":{it},"body":"{{}}"}}\n' for it in (200, 401, 403, 500, 404)]
+    (tmp_path / "x.log").write_text("".join(lines))
+    found = followed.lines_from(str(tmp_path / "x.log"), None)
+    assert [next(found) for _ in range(2)][1][0] == lines[3]
+    line, place = next(found)
+    assert line == "" and place.read == len("".join(lines))
+    found.close()
+
+
 def place_at(path, read):
     with open(path, "rb") as log:
         log.seek(read)

@@ -9,6 +9,7 @@ from contextlib import contextmanager
 
 import pytest
 from support.library import cache as places
+from support.library import disk
 from support.programs import program_of
 from support.unit import calls, ends, raises, with_time
 
@@ -227,3 +228,33 @@ def test_a_folder_that_is_not_there_or_can_not_be_read_is_told(tmp_path, monkeyp
     monkeypatch.setattr(UNCACHE.os, "walk", lambda path, onerror: onerror(PermissionError(13, "denied")))
     said = ends(UNCACHE, monkeypatch, capsys, "frob", "--cache", tmp_path)
     assert said == (2, "", "index-uncache: [Errno 13] denied\n")
+
+
+def test_a_disk_that_takes_no_writes_is_told(tmp_path, monkeypatch):
+    """As after an error of that disk: reads go on, and the index answers."""
+    monkeypatch.setattr(HEALTH, "takes_no_writes", lambda folder: folder == str(tmp_path))
+    found = HEALTH.look_at_room([str(tmp_path), "/"], 0)
+    assert (found.status, found.seen) == (
+        9, f"{tmp_path} takes no writes: its file system is read-only, as after an error of its disk (dmesg)")
+
+
+@pytest.mark.parametrize("folder, shut", [
+    ("/srv/a b", True), ("/srv/a b/c", True), ("/srv/a bc", False), ("/srv", False), ("/", False), ("/var/x", True),
+    ("/var/log/x", False), ("/opt/x", True)])
+def test_a_file_system_is_that_of_the_deepest_mount_and_its_own_options_count(tmp_path, folder, shut):
+    """As proc(5) has it: the options of the mount stand before the dash, and those of the file system last. A unit has
+    mounts of its own that are read-only."""
+    (tmp_path / "mountinfo").write_text(
+        "22 1 8:1 / / ro,relatime shared:1 - ext4 /dev/sda1 rw,errors=remount-ro\n"
+        "36 22 8:2 / /var rw,noatime - ext4 /dev/sda2 ro,errors=remount-ro\n"
+        "37 36 8:3 / /var/log ro - ext4 /dev/sda3 ro\n"
+        "38 36 8:4 / /var/log ro - ext4 /dev/sda4 rw\n"
+        "39 22 0:40 /x /srv/a\\040b rw master:1 propagate_from:2 - ext4 /dev/sdb rw,emergency_ro\n"
+        "40 22 8:5 / /opt rw - xfs /dev/sdc rw,shutdown\n")
+    assert disk.takes_no_writes(folder, str(tmp_path / "mountinfo")) is shut
+
+
+def test_little_room_hides_no_nginx_that_is_gone():
+    room, front = HEALTH.Look(9, "room"), HEALTH.Look(10, "nginx")
+    assert HEALTH.both(room, front) == HEALTH.Look(11, "room; nginx")
+    assert (HEALTH.both(room, WELL), HEALTH.both(WELL, front), HEALTH.both(WELL, WELL)) == (room, front, WELL)

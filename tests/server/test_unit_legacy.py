@@ -23,18 +23,41 @@ def basic(pair):
 
 @pytest.mark.parametrize("header, token", [
     (basic("__token__:abc"), "abc"), (basic("u:a:b"), "a:b"), (basic(":x"), "x"), (basic("u:a b"), "a b"),
-    (" basic   " + basic("u:x").split()[1] + " ", "x"), (basic("u:!~"), "!~")])
+    (" basic   " + basic("u:x").split()[1] + " ", "x"), (basic("u:!~"), "!~"), (basic("u: x"), "x"),
+    (basic("u:x \t"), "x"), (basic("u:x\n"), "x"), (basic("u:\r\n a b \r\n"), "a b")])
 def test_a_token_is_all_behind_the_first_colon(header, token):
     assert LEGACY.token_of(header) == token
 
 
 @pytest.mark.parametrize("header", ["", "Basic", basic("no colon"), "Bearer " + basic("u:x").split()[1], basic("u:"),
-                                    basic("u: x"), basic("u:x "), basic("u:x\n"), basic("u:é"), "Basic dTp4!",
+                                    basic("u: "), basic("u:\n"), basic("u:x\ny"), basic("u:é"), "Basic dTp4!",
                                     basic("u:a\r\nX: y")])
 def test_no_token_is_refused_by_401(header):
     with pytest.raises(LEGACY.Refused) as refused:
         LEGACY.token_of(header)
     assert refused.value.status == 401 and "no token came" in refused.value.sentence
+
+
+@pytest.mark.parametrize("body, owners", [
+    (b'{"owners":["ann","bob"],"state":"held"}', {"owners": "ann, bob"}), (b'{"state":"free"}', {}), (b"[]", {}),
+    (b'{"owners":[]}', {}), (b'{"owners":["ann\\r\\nX: y"]}', {}), (b'{"owners":[1]}', {}), (b'{"owners":"ann"}', {}),
+    (b"<html>", {}), (b"", {})])
+def test_the_owners_of_a_project_are_those_that_the_index_says(body, owners):
+    with socket.create_server(("127.0.0.1", 0)) as index:
+        def answer():
+            peer, _ = index.accept()
+            with peer:
+                assert peer.recv(1 << 16).startswith(b"GET /names/frob HTTP/1.1\r\n")
+                peer.sendall(b"HTTP/1.1 200 OK\r\nContent-Length: %d\r\n\r\n%s" % (len(body), body))
+        threading.Thread(target=answer, daemon=True).start()
+        assert LEGACY.owners_of(f"127.0.0.1:{index.getsockname()[1]}", "frob") == owners
+
+
+def test_of_an_index_that_is_silent_no_owner_is_told_and_it_is_not_waited_for(monkeypatch):
+    monkeypatch.setattr(LEGACY, "LOOK_SECONDS", 0.05)
+    with socket.create_server(("127.0.0.1", 0)) as index:
+        assert LEGACY.owners_of(f"127.0.0.1:{index.getsockname()[1]}", "frob") == {}
+    assert LEGACY.owners_of("127.0.0.1:9", "frob") == {}
 
 
 def mapped(data):

@@ -55,6 +55,7 @@ def test_what_a_client_is_told(monkeypatch, capsys, answer, status, said):
         head, body = asked(serving, message(form(WHEEL, DATA), "abc"))
     assert head.startswith(f"HTTP/1.1 {status}") and body.startswith(said), (head, body)
     assert given == [("x:1", WHEEL, "abc")] and "\r\nConnection: close" in head
+    assert head.split("\r\n").count(f"X-Index-File: {WHEEL}") == 1, head
     headers = {"401": 'WWW-Authenticate: Basic realm="index"', "503": "Retry-After: 2"}
     more = headers.get(status[:3], "Content-Type: text/plain")
     assert f"\r\n{more}" in head and f"\r\nContent-Length: {len(body.encode())}" in head
@@ -71,12 +72,14 @@ def test_what_a_client_is_told(monkeypatch, capsys, answer, status, said):
     (message(form(WHEEL, DATA), Content_Type="text/plain"), "400 this is not a form"),
     (message(form(WHEEL, DATA), Content_Type="multipart/form-data"), "400 this is not a form"),
     (message(form(WHEEL, DATA), Content_Type="multipart/form-data; boundary=" + "b" * 71), "400 this is not a form"),
+    (message(form(WHEEL, DATA)).replace(b"/legacy/", b"/", 1), "405 uploads go to /legacy/ of this address"),
+    (message(form(WHEEL, DATA)).replace(b"/legacy/", b"/simple/?x", 1), "405 uploads go to /legacy/ of this address"),
     (message(form(WHEEL, DATA), Authorization=None), "401")])
 def test_what_is_no_upload_is_told(monkeypatch, data, status):
     with service(monkeypatch) as (serving, given):
         head, _ = asked(serving, data)
     assert head.startswith(f"HTTP/1.1 {status}"), head
-    assert not given and ("\r\nAllow: POST" in head) == status.startswith("405")
+    assert not given and ("\r\nAllow: POST" in head) == status.startswith("405") and "X-Index-File" not in head
 
 
 def test_a_form_has_as_long_as_the_use_says_and_each_piece_of_it_ten_seconds():

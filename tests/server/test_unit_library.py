@@ -55,6 +55,17 @@ def test_a_copy_has_the_bytes_and_is_synced(tmp_path, monkeypatch):
     assert [os.path.getmtime(tmp_path / it) == 5 for it in "bc"] == [False, True]
 
 
+def test_what_was_written_is_synced_and_not_what_stands_beside_it(tmp_path, monkeypatch):
+    synced, sync = [], os.fsync
+    monkeypatch.setattr(os, "fsync", lambda it: (synced.append(os.fstat(it).st_ino), sync(it))[1])
+    (tmp_path / "a").write_bytes(b"bytes")
+    disk.copy(str(tmp_path / "a"), str(tmp_path / "b"))
+    assert synced == [(tmp_path / "b").stat().st_ino]
+    os.mkdir(tmp_path / "kept")
+    disk.put_there(str(tmp_path / "b"), str(tmp_path / "kept" / "c"))
+    assert synced[1:] == [(tmp_path / "kept").stat().st_ino]
+
+
 @pytest.mark.parametrize("words, mode", [((), 0o600), ((0o644,), 0o644)])
 def test_a_file_is_written_whole_with_the_mode_that_is_asked_for(tmp_path, words, mode):
     before = os.umask(0o077)

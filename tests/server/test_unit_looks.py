@@ -4,7 +4,7 @@ import json
 import os
 
 import pytest
-from support.library import looks
+from support.library import followed, looks, tallies
 
 NOW, HOUR, DAY, GIB = 2_000_000_000.0, 3600, 86400, 1 << 30
 
@@ -129,19 +129,76 @@ def log(folder, *rows):
     return str(path)
 
 
+def tally(path):
+    return tallies.read_on(path, tallies.Tally(None, {}), NOW)
+
+
 @pytest.mark.parametrize("rows, told", [
     ([(99, 401, 0.5)], []), ([(100, 401, 0.5)], ["100 changes were answered by 401"]),
     ([(100, 401, 0.5), (230, 401, 5)], []), ([(101, 401, 0.5), (230, 401, 5)], ["101 changes were answered by 401"]),
-    ([(100, 401, 0.5), (9000, 401, 25)], ["100 changes were answered by 401"]), ([(100, 401, 1.5)], []),
+    ([(100, 401, 0.5), (9000, 401, 25)], ["100 changes were answered by 401"]), ([(100, 401, 1.1)], []),
     ([(100, 200, 0.5), (100, 500, 0.5), (100, 401, -1)], []), ([(60, 401, 0.5), (60, 403, 0.5)], []),
     ([(60, 404, 0.5), (60, 499, 0.5)], ["120 changes were answered by another refusal"])])
 def test_a_rise_of_refused_changes_is_told(tmp_path, rows, told):
-    seen = list(looks.refused(log(tmp_path, *rows), NOW))
+    seen = list(looks.refused(tally(log(tmp_path, *rows)), NOW))
+    assert len(seen) == len(told) and all(text.startswith(start) for text, start in zip(seen, told)), seen
+
+
+@pytest.mark.parametrize("rows, told", [
+    ([(1, 500, 0.5)], ["1 change failed (500)"]), ([(3, 500, 0.99), (9, 500, 1.1)], ["3 changes failed (500)"]),
+    ([(9, 500, 1.1), (9, 500, -1), (9, 503, 0.5), (9, 502, 0.5), (9, 404, 0.5)], [])])
+def test_each_change_that_failed_is_told(tmp_path, rows, told):
+    seen = list(looks.failed(tally(log(tmp_path, *rows)), NOW))
     assert len(seen) == len(told) and all(text.startswith(start) for text, start in zip(seen, told)), seen
 
 
 def test_a_log_that_is_not_there_or_was_written_days_ago_tells_nothing(tmp_path):
     path = log(tmp_path, (500, 401, 0.5))
-    assert list(looks.refused(f"{tmp_path}/none", NOW)) == [] and len(list(looks.refused(path, NOW))) == 1
+    assert not tally(f"{tmp_path}/none").minutes and len(list(looks.refused(tally(path), NOW))) == 1
     os.utime(path, (NOW - DAY - 1, NOW - DAY - 1))
-    assert list(looks.refused(path, NOW)) == []
+    assert not tally(path).minutes
+
+
+def test_a_log_that_nginx_does_not_write_is_told(tmp_path):
+    """The database is written by changes, each of which nginx logs, and as the index starts."""
+    db, log = tmp_path / "index.db", tmp_path / "changes.log"
+    for path, at in ((db, NOW), (tmp_path / "index.db-wal", NOW + 700), (log, NOW)):
+        path.write_text("")
+        os.utime(path, (at, at))
+    assert [*looks.unlogged(str(db), str(log), NOW + 600)] == [] == [*looks.unlogged(str(db), str(log), 0)]
+    found, = looks.unlogged(str(db), str(log), NOW - 5)
+    assert found.startswith(f"{db} was changed 12 minutes after the last line of {log}: nginx does not write it, or ")
+    # one that was rotated away may be written on for a while
+    (tmp_path / "changes.log.1").write_text("")
+    os.utime(tmp_path / "changes.log.1", (NOW + 580, NOW + 580))
+    assert [*looks.unlogged(str(db), str(log), NOW - 5)] == []
+
+
+@pytest.mark.parametrize("read, told", [(0, 1), (1, 0), (2, 0)])
+def test_a_follower_that_stays_behind_is_told(tmp_path, read, told):
+    """Three lines, the last of which are of three minutes ago and of now: up to where it has read."""
+    log, place = tmp_path / "changes.log", tmp_path / "place"
+    at = [datetime.datetime.fromtimestamp(it, datetime.timezone.utc).isoformat() for it in (NOW - 900, NOW - 180, NOW)]
+    lines = [json.dumps({"at": it}) + "\n" for it in at]
+    log.write_text("".join(lines))
+    with open(log, "rb") as opened:
+        opened.seek(sum(map(len, lines[:read + 1])))
+        followed.keep_place(str(place), followed.place_of(opened))
+    found = [*looks.behind(str(place), str(log), NOW)]
+    assert len(found) == told and all(it.startswith("index-uncache-follow is 3 minutes behind ") for it in found), found
+    assert [*looks.behind(str(tmp_path / "none"), str(log), NOW)] == []
+
+
+@pytest.mark.parametrize("late, told", [(900, 1), (100, 0)])
+def test_a_follower_that_stays_behind_a_rotation_is_told(tmp_path, late, told):
+    log, place = tmp_path / "changes.log", tmp_path / "place"
+    old, new = [json.dumps({"at": datetime.datetime.fromtimestamp(it, datetime.timezone.utc).isoformat()}) + "\n"
+                for it in (NOW - 1800, NOW - late)]
+    (tmp_path / "changes.log.1").write_text(old)
+    with open(tmp_path / "changes.log.1", "rb") as opened:
+        opened.seek(len(old))
+        followed.keep_place(str(place), followed.place_of(opened))
+    log.write_text("")
+    assert [*looks.behind(str(place), str(log), NOW)] == []
+    log.write_text(new)
+    assert len([*looks.behind(str(place), str(log), NOW)]) == told

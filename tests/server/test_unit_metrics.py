@@ -1,11 +1,14 @@
 """Functions of index-metrics at their boundaries, without a server."""
+import contextlib
 import http.server
 import os
+import sqlite3
 import subprocess
 import threading
 import types
 
 import pytest
+from support.library import exposition
 from support.programs import program_of
 from support.unit import calls, ends, with_time
 
@@ -19,7 +22,7 @@ PARTS = "index_look_seconds", "index_backup_newest_seconds"
 def told(metrics):
     metrics = list(metrics)
     assert all(type(it.value) is int or it.name in PARTS for it in metrics)
-    return {(it.name, it.of) if it.of else it.name: it.value for it in metrics}
+    return {(it.name, *(value for _, value in it.labels)) if it.labels else it.name: it.value for it in metrics}
 
 
 @pytest.mark.parametrize("url, port", [
@@ -30,9 +33,9 @@ def test_an_index_is_told_by_its_port_also_if_the_address_has_none(url, port):
 
 
 def test_a_line_has_the_port_and_the_part():
-    assert METRICS.line(METRICS.Metric("index_up", 1), 8080) == 'index_up{port="8080"} 1\n'
-    room = METRICS.Metric("index_room_bytes", 5, "nginx")
-    assert METRICS.line(room, 8080) == 'index_room_bytes{port="8080",of="nginx"} 5\n'
+    assert exposition.line(METRICS.Metric("index_up", 1), 8080) == 'index_up{port="8080"} 1\n'
+    room = METRICS.Metric("index_room_bytes", 5, (("of", "nginx"),))
+    assert exposition.line(room, 8080) == 'index_room_bytes{port="8080",of="nginx"} 5\n'
 
 
 def test_the_sizes_of_files_and_the_age_of_the_newest_copy(tmp_path):
@@ -66,6 +69,35 @@ def test_the_newest_copy_is_of_no_clock_that_was_ahead_and_of_no_later_touch(tmp
         os.utime(tmp_path / path, (moment, moment))
     with_time(monkeypatch, METRICS, time=lambda: 9_000)
     assert told(METRICS.files("/none", str(tmp_path)))["index_backup_newest_seconds"] == at
+
+
+def test_names_and_files_and_quotas_are_those_of_the_newest_copy(tmp_path):
+    """Of names that are held: one is prohibited, and one has a quota of nothing."""
+    rows = [(1, 3, 80, 100), (1, 2, 79, 100), (1, 0, 0, 0), (2, 0, 0, 0)]
+    for name, kept, users in (("index-19700101T010000Z.db", rows, 4), ("index-19700101T000000Z.db", rows[:1], 1)):
+        with contextlib.closing(sqlite3.connect(tmp_path / name)) as db:
+            db.execute("CREATE TABLE names (state, live, charged, quota)")
+            db.execute("CREATE TABLE users (user)")
+            db.executemany("INSERT INTO names VALUES (?, ?, ?, ?)", kept)
+            db.executemany("INSERT INTO users VALUES (?)", [(it,) for it in range(users)])
+            db.commit()
+    # nobody waits for a lock, or takes one
+    with contextlib.closing(sqlite3.connect(tmp_path / "index-19700101T010000Z.db")) as other:
+        other.execute("BEGIN EXCLUSIVE")
+        found = told(METRICS.files("/none", str(tmp_path)))
+    assert {name: value for name, value in found.items() if "backup" not in name} == {
+        "index_damaged_logs": 0, "index_names": 3, "index_files": 5, "index_charged_bytes": 159,
+        "index_quota_bytes": 200, "index_quotas_nearly_full": 2, "index_users": 4}
+    (tmp_path / "index-19700101T020000Z.db").write_text("not a database")
+    assert "index_names" not in told(METRICS.files("/none", str(tmp_path)))
+
+
+def test_the_bodies_that_nginx_receives_are_summed(tmp_path, monkeypatch):
+    for name, length in (("1", 7), ("2", 9)):
+        (tmp_path / name).write_bytes(bytes(length))
+    monkeypatch.setattr(METRICS.os, "listdir", lambda _: ["1", "gone", "2"])
+    assert told(METRICS.bodies(str(tmp_path))) == {"index_bodies_bytes": 16}
+    assert told(METRICS.bodies(f"{tmp_path}/none")) == {}
 
 
 def test_the_room_of_folders_that_are_there(tmp_path, monkeypatch):
@@ -109,7 +141,9 @@ def test_the_last_look_of_a_check_of_health(monkeypatch, status, begun, ended, f
     text = "".join(f"ExecMain{name}={value}\n" for name, value in lines.items())
     asked = calls(monkeypatch, METRICS, "said", text)
     seen = told(METRICS.last_look("it.service"))
-    assert seen == ({} if found is None else {"index_up": found[0], "index_look_seconds": found[1]})
+    hangs = begun == 30.5
+    assert seen == ({} if found is None else {"index_up": found[0], "index_look_seconds": found[1],
+                                              "index_health_status": -1 if hangs else max(status, 0)})
     names = "ExecMainStatus,ExecMainStartTimestampMonotonic,ExecMainExitTimestampMonotonic"
     assert asked == [("systemctl", "show", f"--property={names}", "it.service")]
 
@@ -154,22 +188,27 @@ def test_the_end_of_a_certificate_is_read_as_utc(tmp_path, monkeypatch):
     METRICS.time.tzset()
 
 
+@pytest.mark.told("`index-metrics` can't write")
 def test_what_is_asked_by_the_words(tmp_path, monkeypatch, capsys):
     seen = {}
-    for name in ("files", "rooms", "last_look", "looks", "restarts", "certificate"):
+    for name in ("files", "rooms", "last_look", "looks", "restarts", "certificate", "bodies", "changes"):
         monkeypatch.setattr(METRICS, name, lambda *words, name=name: seen.__setitem__(name, words) or [])
     with_time(monkeypatch, METRICS, time=lambda: 1234.9)
     monkeypatch.chdir(tmp_path)
-    assert ends(METRICS, monkeypatch, capsys, "x.db", "copies") == (0, 'index_written_seconds{port="8080"} 1234\n', "")
+    head = "# HELP index_written_seconds When these lines were written.\n# TYPE index_written_seconds gauge\n"
+    said = f'{head}index_written_seconds{{port="8080"}} 1234\n'
+    assert ends(METRICS, monkeypatch, capsys, "x.db", "copies") == (0, said, "")
     assert seen == {"files": (f"{tmp_path}/x.db", "copies"), "looks": ("http://127.0.0.1:8080",),
                     "rooms": ({"database": str(tmp_path), "backups": "copies", "nginx": "/var/cache/nginx"},),
-                    "restarts": ("index.service",), "certificate": ("/etc/nginx/conf.d/packages.conf",)}
+                    "restarts": ("index.service",), "certificate": ("/etc/nginx/conf.d/packages.conf",),
+                    "bodies": ("/var/cache/nginx/index-bodies",)}
     seen.clear()
     words = ["x.db", "copies", "--health", "h.service", "--url", "http://x", "--unit", "u", "--nginx", "n",
-             "--out", "o"]
+             "--out", "o", "--state", "s"]
     assert ends(METRICS, monkeypatch, capsys, *words) == (0, "", "")
-    assert (tmp_path / "o").read_text() == 'index_written_seconds{port="80"} 1234\n'
+    assert (tmp_path / "o").read_text() == f'{head}index_written_seconds{{port="80"}} 1234\n'
     assert seen["last_look"] == ("h.service",) and "looks" not in seen
     assert (seen["restarts"], seen["certificate"]) == (("u",), ("n",))
+    assert seen["changes"] == ("s", "/var/log/package-index/changes.log", "/var/lib/index-uncache/place")
     status, _, err = ends(METRICS, monkeypatch, capsys, "x.db", "copies", "--out", "none/o")
     assert status == 1 and err.startswith("index-metrics: ") and "none/o" in err

@@ -24,8 +24,9 @@ def test_a_program_runs_by_a_link_and_tells_its_use(tmp_path, name):
 
 @pytest.mark.parametrize("name, told", [
     ("index-alarms", ["/var/lib/index-alarms/state.json", "/var/backups/index", "/var/backups/index",
-                      "/var/log/nginx/index-changes.log"]),
-    ("index-uncache-follow", ["/var/log/nginx/index-changes.log", "/var/cache/nginx/index-files",
+                      "/var/lib/index/index.db", "/etc/nginx/conf.d/packages.conf",
+                      "/var/lib/index-uncache/place", "/run/index-alarm"]),
+    ("index-uncache-follow", ["/var/cache/nginx/index-files",
                               "/var/lib/index-uncache/place", "/etc/nginx/conf.d/packages.conf"])])
 def test_the_use_ends_its_lines_by_what_is_taken_if_nothing_is_given(name, told):
     ended = subprocess.run([sys.executable, "-B", f"{BIN}/{name}", "--help"], stdout=subprocess.PIPE, text=True,

@@ -1,6 +1,7 @@
 """A whole restore by index-restore, without the program: what it does in which order, and what it tells."""
 import datetime
 import os
+import shutil
 import signal
 import time
 import types
@@ -276,7 +277,7 @@ def test_the_words_of_a_restore(tmp_path, monkeypatch, capsys):
 def test_the_way_back_is_to_the_newest_that_was_put_aside(tmp_path, monkeypatch):
     names = [f"{tmp_path}/before-2026010{day}T000000Z/index.db" for day in (2, 3, 1)]
     monkeypatch.setattr(RESTORE.glob, "glob", lambda _: names)
-    words = types.SimpleNamespace(db=RESTORE.DB)
+    words = types.SimpleNamespace(db=RESTORE.DB, unit=None)
     assert f"To go back to it: index-restore {names[1]}\n" in RESTORE.way_back(words, f"{tmp_path}/before-now")
 
 
@@ -289,6 +290,37 @@ def test_the_way_back_of_one_of_several_indexes_is_to_itself(tmp_path, monkeypat
     said = RESTORE.way_back(words, str(tmp_path) if is_there else f"{tmp_path}/none")
     assert said.endswith(": index-restore --db /var/lib/index/8081/index.db --url http://x:8081 --unit "
                          f"index@8081.service {tmp_path}/index.db\n")
+
+
+def test_the_way_back_is_without_a_unit_if_the_restore_was(tmp_path):
+    (tmp_path / "index.db").touch()
+    words = types.SimpleNamespace(db=RESTORE.DB, url="http://x:1", unit=["none"])
+    said = RESTORE.way_back(words, str(tmp_path))
+    assert f"index-restore --db {RESTORE.DB} --url http://x:1 --unit none {tmp_path}/index.db\n" in said
+
+
+def test_without_a_unit_nothing_is_stopped_or_started_and_the_start_is_left_to_you(tmp_path, monkeypatch, capsys):
+    world = World(tmp_path, monkeypatch, unit=["none"])
+    world.units = RESTORE.Units(["none"])
+    world.restored()
+    said = capsys.readouterr().out
+    assert "is in its place; what was there is in " in said
+    assert "start the index now: --unit none starts nothing\n" in said
+    assert not [it for it in world.order if "systemctl" in it] and f"empty {world.words.cache[0][:-1]}" in world.order
+    # nginx is not told, but its file is away before the next one starts
+    assert not os.path.exists(world.words.with_pypi) and "PyPI was taken off" in said
+
+
+def test_who_is_not_root_gives_the_copy_to_nobody(tmp_path, monkeypatch):
+    """On a disk whose folder is another user's, as in a container, no other owner could be set."""
+    world = World(tmp_path, monkeypatch)
+    monkeypatch.setattr(os, "geteuid", lambda: os.stat(tmp_path).st_uid or 1)
+    monkeypatch.setattr(os, "chown", raises(PermissionError("no")))
+    monkeypatch.setattr(RESTORE, "made_own", lambda folder: os.mkdir(folder) or folder)
+    shutil.copy(world.copy, tmp_path / "index.db")
+    monkeypatch.setattr(RESTORE, "copy_file", shutil.copy)
+    RESTORE.put_beside(world.copy, str(tmp_path / "beside"), os.stat(tmp_path))
+    assert os.listdir(tmp_path / "beside") == ["index.db"]
 
 
 def test_restores_that_were_killed_are_told_the_oldest_first(tmp_path, monkeypatch, capsys):

@@ -26,6 +26,15 @@ def test_units_are_started_also_if_their_stop_failed(monkeypatch):
     assert asked == [("systemctl", "start", "a")]
 
 
+def test_none_is_no_unit(monkeypatch):
+    """As in a container, in which no systemd could be asked."""
+    asked, none = calls(monkeypatch, units, "run"), units.Units(["none"])
+    none.stop()
+    none.start()
+    assert none.names == [] and asked == []
+    assert units.Units(["none", "a"]).names == ["none", "a"]
+
+
 def test_a_unit_of_another_database_is_refused(tmp_path, monkeypatch):
     os.symlink(tmp_path, f"{tmp_path}/link")
     db = f"{tmp_path}/index.db"

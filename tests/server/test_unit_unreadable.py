@@ -107,7 +107,7 @@ def test_a_restore_goes_on_if_the_disk_can_not_keep_its_names(files, monkeypatch
     monkeypatch.setattr(RESTORE, "exchange", lambda *_: None)
     monkeypatch.setattr(RESTORE, "ignore_signals", lambda: None)
     monkeypatch.setattr(RESTORE, "sync", raises(OSError(errno.EIO, "Input/output error")))
-    units = types.SimpleNamespace(stop=lambda: None)
+    units = types.SimpleNamespace(names=["a"], stop=lambda: None)
     words = types.SimpleNamespace(copy=files.copy, complete=False, with_pypi=f"{files.folder}/none")
     RESTORE.put_into_place(words, files.db, units, f"{files.folder}/beside", f"{files.folder}/aside")
     assert "Input/output error: a loss of power may undo this restore\n" in capsys.readouterr().err

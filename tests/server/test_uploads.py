@@ -79,15 +79,18 @@ class TestWrong:
         assert_ends(uploads.run(fine, large.name), 2, f"{MOST + 1} bytes")
         assert_reply(filled_index.ask("GET", f"/files/frob/{os.path.basename(fine)}"), 404)
 
-    def test_a_file_that_is_no_archive(self, uploads):
-        with open(f"{uploads.folder}/frob-7.0.tar.gz", "wb") as no_archive:
+    @pytest.mark.parametrize("name", ["frob-7.0.tar.gz", "frob-7.0-py3-none-any.whl"])
+    def test_a_file_that_is_no_archive(self, uploads, name):
+        with open(f"{uploads.folder}/{name}", "wb") as no_archive:
             no_archive.write(b"no archive")
         assert_ends(uploads.run(no_archive.name), 2, "can't be read")
 
-    def test_a_name_of_another_kind(self, uploads):
-        with open(f"{uploads.folder}/frob-7.0.zip", "wb") as archive:
+    @pytest.mark.parametrize("name, said", [("frob-7.0.zip", ".whl and .tar.gz alone"),
+                                            ("frob-7.0.whl", "not the name of a wheel")])
+    def test_a_name_of_another_kind(self, uploads, name, said):
+        with open(f"{uploads.folder}/{name}", "wb") as archive:
             archive.write(b"an archive")
-        assert_ends(uploads.run(archive.name), 2, "not the name of a wheel")
+        assert_ends(uploads.run(archive.name), 2, said)
 
     @pytest.mark.parametrize("setting, said", [
         ({"INDEX_URL": None}, "INDEX_URL"), ({"INDEX_URL": "http://packages.example"}, "https"),

@@ -14,6 +14,7 @@ def test_a_sound_copy(program, copy):
 
 
 @pytest.mark.parametrize("what", WRONG)
+@pytest.mark.told("`index-restore`")
 def test_a_wrong_row(program, copy, what):
     statement, said = WRONG[what]
     assert changed(copy, statement) == 1

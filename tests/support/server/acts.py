@@ -5,8 +5,8 @@ from dataclasses import dataclass
 
 from support.server.pasted import block
 
-LOG = "/var/log/nginx/index-changes.log"
-FOLDERS = "/var/lib/index /var/backups/index /var/cache/nginx /var/log/nginx"
+LOG = "/var/log/package-index/changes.log"
+FOLDERS = "/var/lib/index /var/backups/index /var/cache/nginx /var/log/nginx /var/log/package-index"
 INSTALL = "--force-unsafe-io", "--install", "/root/stepped_1.deb"
 # a name of a user, which is given once, and then answered by `already`
 CLAIM = ("curl -sf --retry 9 --retry-connrefused -H \"X-Index-Token: $(cat /root/office)\" "
@@ -30,10 +30,11 @@ find /etc/systemd/system -type l -name 'index*'
 getent passwd index | cut -d : -f 1
 ls /var/lib/index/index.db; ls /var/backups/index | grep -q 'db$' && echo copies; grep -q kept {LOG} && echo log"""
 STAYS = "index\n/var/lib/index/index.db\ncopies\nlog\n"
-CONFIGURED = "/etc/nginx/index/indexes.conf\n/etc/nginx/index/kept-pages.conf\n"
+CONFIGURED = "".join(f"/etc/nginx/index/{it}.conf\n" for it in ("callers", "indexes", "kept-pages"))
 
 MADE = f"stat -c '%U %G %a' {FOLDERS} {LOG}; systemctl show -P UnitFileState index; systemctl is-active index"
-NEW = ("index index 700\nroot root 700\nroot root 755\nroot root 755\nwww-data adm 640\ndisabled\ninactive\n")
+NEW = ("index index 700\nroot root 700\nroot root 755\nroot root 755\nroot adm 751\nwww-data adm 640\ndisabled\n"
+       "inactive\n")
 
 
 @dataclass(frozen=True)

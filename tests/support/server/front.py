@@ -16,7 +16,8 @@ from support.ports import free_port
 from support.running import run_command
 from support.serving import Asking, Running, exchange, listens
 
-# What a distribution's nginx.conf says around the server.
+# What a distribution's nginx.conf says around the server, with the module that names callers, if it is there.
+MODULES = "include /etc/nginx/modules-enabled/*-mod-http-js.conf;\n"
 MAIN = """worker_processes 2;
 daemon off;
 pid {folder}/nginx.pid;
@@ -84,14 +85,37 @@ def make_certificate(folder: str, names: str = "IP:127.0.0.1,IP:::1") -> str:
     return f"{folder}/pem"
 
 
+def make_chain(folder: str, host: str) -> str:
+    """A folder with an authority `root.pem`, a leaf `leaf.pem` for this host by another one below that, both as
+    `fullchain.pem`, and the leaf's `key`."""
+    os.makedirs(folder)
+    new = "openssl req -newkey ec -pkeyopt ec_paramgen_curve:prime256v1 -nodes"
+    script = f"""{new} -x509 -days 2 -subj /CN=root -keyout root.key -out root.pem
+        {new} -subj /CN=middle -keyout middle.key -out middle.csr
+        printf 'basicConstraints=critical,CA:TRUE\\n' > middle.ext
+        openssl x509 -req -days 2 -in middle.csr -CA root.pem -CAkey root.key -CAcreateserial -extfile middle.ext \\
+            -out middle.pem
+        {new} -subj /CN={host} -keyout key -out leaf.csr
+        printf 'subjectAltName=DNS:{host}\\n' > leaf.ext
+        openssl x509 -req -days 2 -in leaf.csr -CA middle.pem -CAkey middle.key -CAcreateserial -extfile leaf.ext \\
+            -out leaf.pem
+        cat leaf.pem middle.pem > fullchain.pem"""
+    ended = run_command(["sh", "-ec", f"cd '{folder}'\n{script}"])
+    if ended.returncode:
+        raise SystemExit(f"openssl ended with {ended.stdout}")
+    return folder
+
+
 class Nginx(Running):
     """nginx in a folder of its own, on a free port. The files of `conf.d` there say what it serves."""
 
     def __init__(self, folder: str):
         self.folder, self.port = folder, free_port()
         os.makedirs(f"{folder}/conf.d")
+        # as Debian's folder of nginx has them, which a line for a module counts from
+        os.symlink("/usr/lib/nginx/modules", f"{folder}/modules")
         with open(f"{folder}/nginx.conf", "w") as conf:
-            conf.write(MAIN.format(folder=folder))
+            conf.write(MODULES + MAIN.format(folder=folder))
         words = ["nginx", "-p", folder, "-e", f"{folder}/error.log", "-c", f"{folder}/nginx.conf"]
         super().__init__(words, stdout=subprocess.DEVNULL, stderr=subprocess.DEVNULL, start_new_session=True)
 
@@ -148,10 +172,14 @@ class Front(Nginx, Asking):
             "/usr/local/bin/indexctl": f"{folder}/indexctl",
             "/etc/ssl/packages.example.pem": certificate, "/var/cache/nginx/": f"{folder}/cache/",
             # a machine that tries this may have less room
+            "/../../../../etc/nginx/index/": f"/../../../..{folder}/index/",
+            "/var/log/package-index/changes.log": f"{folder}/index-changes.log",
             "/var/log/nginx/": f"{folder}/", "/run/index-full": f"{folder}/index-full", "min_free=2g": "min_free=16m",
             "/etc/ssl/packages.example.key": f"{os.path.dirname(certificate)}/key"})
         self.put("index/kept-pages.conf", kept("kept-pages.conf"), **compressing,
                  **({" 1s;": f" {page_seconds}s;"} if page_seconds != 1 else {}))
+        for name in ("callers.conf", "callers.js"):
+            self.put(f"index/{name}", kept(name))
         ports = {f"127.0.0.1:{8080 + at}": it if isinstance(it, str) else f"127.0.0.1:{it}"
                  for at, it in enumerate(behind)}
         self.put("index/indexes.conf", kept("one-index.conf" if len(behind) == 1 else "shards.conf"), **ports)

@@ -26,7 +26,7 @@ if [ "$1" = start ] && grep -qs Type=oneshot "/lib/systemd/system/$2"; then
 fi
 """
 # where nginx writes down what was changed
-CHANGES = "/var/log/nginx/index-changes.log"
+CHANGES = "/var/log/package-index/changes.log"
 # of the program, and of its command line before any
 WORDS = ("", "init", "serve", "apply", "report", "check")
 MOUNTS = """set -e
@@ -134,7 +134,7 @@ class Life:
         instances = f"$(ls {units} | grep @ | grep -v alarm | sed s/@/@8081/)"
         seen["verify"] = root.sh(f"systemd-analyze verify $(ls {units} | grep -v @) {instances}")
         seen["security"] = root.sh(f"for it in {units}.service; do echo $it; systemd-analyze security --offline=true "
-                                   "--threshold=9 $it || echo FAR; done")
+                                   "--threshold=10 $it || echo FAR; done")
         seen["uses"] = root.sh("for it in $(dpkg -L package-index | grep ^/usr/bin/); do "
                                "$it --help > /dev/null || echo $it; done")
         library = "/usr/lib/python3/dist-packages/package_index"

@@ -6,6 +6,7 @@ import os
 import re
 import shutil
 import sys
+import tempfile
 from subprocess import CompletedProcess
 
 from releases import COMMAND
@@ -65,7 +66,8 @@ class Repository:
         for name in os.listdir(f"{folder}/server/bin"):
             if name != "index-alarm":
                 os.remove(f"{folder}/server/bin/{name}")
-        shutil.copy(f"{TOP}/LICENSE", folder)
+        for name in ("LICENSE", "crates.txt"):
+            shutil.copy(f"{TOP}/{name}", folder)
         self.put("tools/build", BUILD)
         self.put("tools/program.c", PROGRAM)
         self.put("CHANGELOG.md", CHANGELOG.format(day="2 January 2030", long=LONG))
@@ -167,6 +169,32 @@ class Releases:
         self.refused["a proof that fails"] = self.repository.release(self.none, *words, RT_FAILS="yes", **setting)
         self.refused["a folder made meanwhile"] = self.repository.release(taken, *words, RT_MAKES=taken, **setting)
         return self.repository.release(f"{self.folder}/gate", *words, **setting)
+
+    @functools.cached_property
+    def keys(self) -> str:
+        """A folder of gpg's with a key."""
+        # (of its agent's socket the path is short)
+        made = tempfile.mkdtemp()
+        words = ["gpg", "--batch", "--passphrase", "", "--quick-generate-key", "ann@example.org", "ed25519", "sign"]
+        ended = run_command(words, GNUPGHOME=made)
+        if ended.returncode:
+            raise SystemExit(ended.stdout)
+        return made
+
+    @functools.cached_property
+    def signed(self) -> CompletedProcess:
+        """A release that is signed."""
+        assert self.of_the_gate
+        words = VERSION, self.commit, "--program", f"{self.out}/index-{VERSION}-amd64", "--sign"
+        self.refused["a key that is not there"] = self.repository.release(self.none, *words, "nobody@example.org",
+                                                                          GNUPGHOME=self.keys)
+        return self.repository.release(f"{self.folder}/signed", *words, "ann@example.org", GNUPGHOME=self.keys)
+
+    def end(self) -> None:
+        """Ends gpg's agent, which goes on by itself, and removes its keys."""
+        if "keys" in self.__dict__:
+            run_command(["gpgconf", "--kill", "all"], GNUPGHOME=self.keys)
+            shutil.rmtree(self.keys, ignore_errors=True)
 
     def sums(self, name: str) -> str:
         return written(f"{self.folder}/{name}/SHA256SUMS")

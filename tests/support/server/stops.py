@@ -26,6 +26,7 @@ SIGNALS = [pytest.param(signal.SIGINT, marks=pytest.mark.slow), signal.SIGTERM,
 STOPPED = """
 import os, runpy, sys
 left, number = int(sys.argv.pop(1)), int(sys.argv.pop(1))
+begun = left
 CALLS = {"os.mkdir", "os.link", "os.remove", "os.rename", "os.rmdir", "os.chmod", "os.chown", "subprocess.Popen",
          "http.client.connect", "http.client.send"}
 def step():
@@ -48,7 +49,7 @@ sys.argv.pop(0)
 try:
     runpy.run_path(sys.argv[0], run_name="__main__")
 finally:
-    left >= 0 and print("it has no such step", file=sys.stderr)
+    left >= 0 and print("it has no such step, but", begun - left, file=sys.stderr)
 """
 NOT_REACHED = "it has no such step"
 # stands for `cp`: the copy of this number, from 0 on, has half of its bytes when its caller gets a signal
@@ -83,6 +84,11 @@ def ended_before(step: int, number: int, words: Sequence[str], **setting: str) -
 def is_reached(ended: subprocess.CompletedProcess) -> bool:
     """Whether it had such a step."""
     return NOT_REACHED not in ended.stdout
+
+
+def steps_of(ended: subprocess.CompletedProcess) -> int:
+    """How many steps it had that got to its end."""
+    return int(ended.stdout.rpartition(f"{NOT_REACHED}, but ")[2].split()[0])
 
 
 def halved(folder: str, copy: int, number: int) -> dict[str, str]:

@@ -1,13 +1,17 @@
 """What stands for PyPI beside the index."""
 from __future__ import annotations
 
+import http.client
 import http.server
 
 from support.proxy import InThread
 
 
 class Handler(http.server.BaseHTTPRequestHandler):
+    server: Server
+
     def do_GET(self) -> None:
+        self.server.asked.append(self.headers)
         body = b"<a href=\"/99.0\">a stranger's 99.0</a>"
         self.send_response_only(200)
         self.send_header("Content-Type", "text/html")
@@ -19,9 +23,17 @@ class Handler(http.server.BaseHTTPRequestHandler):
         pass
 
 
+class Server(http.server.ThreadingHTTPServer):
+    """It keeps the headers of each request."""
+
+    def __init__(self) -> None:
+        super().__init__(("127.0.0.1", 0), Handler)
+        self.asked: list[http.client.HTTPMessage] = []
+
+
 class Stranger(InThread):
     """It has a page for each path, with a file of the highest version."""
 
     def __init__(self) -> None:
-        self.server = http.server.ThreadingHTTPServer(("127.0.0.1", 0), Handler)
-        self.port = self.server.server_port
+        self.server = Server()
+        self.port, self.asked = self.server.server_port, self.server.asked

@@ -83,5 +83,5 @@ def look_at_health(path: str, *words: str, under: tuple = (), full: str = NOWHER
 def measured(words: list, **setting: str) -> dict[str, float]:
     """What index-metrics writes, by name; nothing if it fails."""
     ended = run_command([*METRICS, *words], **setting)
-    lines = re.findall(r'^([a-z_]+)\{port="\d+"(,of="[a-z]+")?\} (\S+)$', ended.stdout, re.M)
+    lines = re.findall(r'^([a-z_]+)\{port="\d+"((?:,[a-z]+="[^"]+")*)\} (\S+)$', ended.stdout, re.M)
     return {name + of: float(value) for name, of, value in lines} if ended.returncode == 0 else {}
