@@ -11,7 +11,7 @@ from support.compare.runs import Runner, pasted, shown, smallest
 from support.model_runs import wanted, written_run
 
 SECONDS, MOST_CUTTING, MOST_RUNS = 30, 60, 400
-# eight runs met every answer each time that it was tried, and most often two; a busy machine makes few in a minute
+# eleven to seventeen runs met each request with each of its answers; a busy machine makes few in a minute
 ENOUGH = 60
 pytestmark = pytest.mark.timeout(1_800)
 
@@ -31,8 +31,8 @@ def told(program, runner, store, steps, found):
 
 
 def test_program_and_model_answer_alike_and_every_answer_is_met(program, folder, chance, looked, pytestconfig):
-    """Each kind of request is accepted, and each refusal and each status met. Until then runs go on, however long they
-    take."""
+    """Each kind of request is accepted, and gets each refusal of its row; each status is met. Until then runs go on,
+    however long they take."""
     met, number, begun = Counter(), 0, time.monotonic()
     seconds = pytestconfig.option.seconds or SECONDS
     while time.monotonic() < begun + seconds or number < ENOUGH and unmet(met):

@@ -52,11 +52,15 @@ def store_at(path, cause):
 
 
 def bytes_at(path):
-    """The bytes of a regular file, or whether something else is there."""
+    """The bytes of a regular file, or whether something else is there. Of one that this user may not read, its size
+    and the time of its last change."""
     if not os.path.isfile(path):
         return os.path.lexists(path)
-    with open(path, "rb") as file:
-        return file.read()
+    try:
+        with open(path, "rb") as file:
+            return file.read()
+    except PermissionError:
+        return os.stat(path)[6:9:2]
 
 
 @pytest.fixture

@@ -31,6 +31,7 @@ def test_a_malformed_address(listens, looked):
 
 
 @pytest.mark.parametrize("host, family", [("127.0.0.1", socket.AF_INET), ("::1", socket.AF_INET6)])
+@pytest.mark.told("`index: Listen`")
 def test_a_port_on_which_another_program_listens(listens, host, family):
     with socket.socket(family) as other:
         try:

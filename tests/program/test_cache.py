@@ -8,7 +8,7 @@ import sqlite3
 from contextlib import closing
 
 import pytest
-from support.refusals import rests
+from support.refusals import Messages, rests
 from support.serving import JSON_PAGE, Index, sha256
 
 MEBIBYTE = 1 << 20
@@ -117,6 +117,48 @@ def test_a_long_page_is_found_again(program, index_file, refusals, looked, count
     with Counted(program, index_file, refusals, keep) as index:
         costs = [index.cost(path, Accept="text/html") for _ in range(3)]
     looked(max(costs[1:]) < costs[0] / 10, "it is found again", costs)
+
+
+@pytest.mark.slow
+def test_a_page_of_ten_mebibytes_is_found_again(program, index_file, refusals, looked):
+    """Up to 64 MiB are gathered, if as much is cached."""
+    fill(index_file, *LONG["/simple/frob/"](40_000))
+    with Counted(program, index_file, refusals, 128 * MEBIBYTE) as index:
+        first, again = [index.cost("/simple/frob/", Accept="text/html") for _ in range(2)]
+    looked(again < first / 10, "it is found again", first, again)
+
+
+@pytest.mark.parametrize("count", [100, pytest.param(1_000, marks=pytest.mark.slow)])
+def test_so_many_pages_are_found_again(program, index_file, refusals, looked, count):
+    """1,024 are cached."""
+    fill(index_file, names(count), [])
+    with Counted(program, index_file, refusals, None) as index:
+        first, again = [sum(index.cost(f"/simple/{it}/", Accept=JSON_PAGE) for it in names(count)) for _ in range(2)]
+    looked(again < first / 2, "they are found again", first, again)
+
+
+@pytest.mark.parametrize("count", [100, pytest.param(1_000, marks=pytest.mark.slow)])
+def test_so_many_files_are_found_again(program, index_file, refusals, looked, count):
+    """1,024 are cached."""
+    fill(index_file, [], files(count))
+    with Counted(program, index_file, refusals, None) as index:
+        first, again = [sum(index.cost(f"/files/frob/{it}") for it in files(count)) for _ in range(2)]
+    looked(again < first / 2, "they are found again", first, again)
+
+
+@pytest.mark.slow
+def test_a_page_that_is_cut_is_told_by_one_line(program, index_file, refusals, looked):
+    """It is above 4 MiB and not cached, so it is sent row by row; for one of the last rows there is no memory."""
+    fill(index_file, *LONG["/simple/"](17_500))
+    asked = b"GET /simple/ HTTP/1.1\r\nHost: x\r\nAccept: text/html\r\n\r\n"
+    with Messages(program, index_file, refusals, 0) as index:
+        before = refusals.numbers[0]
+        whole, said = index.send(asked)
+        # (after the rows that are gathered in vain, and those that are counted)
+        refusals.refuse(5 * (refusals.numbers[0] - before) // 6)
+        part, told = index.send(asked)
+    looked(said == b"" and part and whole.startswith(part) and part != whole, "it is cut", len(whole), len(part), said)
+    looked(told == b"index: connection: Cut\n", "it is told", told)
 
 
 # memory

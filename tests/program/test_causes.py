@@ -321,6 +321,20 @@ def test_no_right_to_make_a_log_or_a_file(as_nobody, looked):
     os.chmod(under, 0o755)
 
 
+@pytest.mark.parametrize("is_lasting", [False, True], ids=["once", "from-then-on"])
+@pytest.mark.parametrize("at", range(1, 4))
+def test_a_system_without_memory_to_open_a_file_is_told_as_want_of_memory(end, failing, index_file, at, is_lasting):
+    fault = Fault("open", at, "ENOMEM", is_lasting)
+    ended = end(*words_of("check", index_file), setting=failing.setting(index_file, fault))
+    assert failing.counted()["failed"] and ended == End(1, b"", b"index: OutOfMemory\n"), ended
+
+
+@pytest.mark.parametrize("path", ["/no-right.db", "//no-right.db"])
+def test_no_right_to_make_a_file_in_the_root_folder(as_nobody, path):
+    """What stands before its slash is nothing, and that folder is there."""
+    as_nobody(NOT_MADE, INITS, path=path)
+
+
 def test_no_right_to_the_folder(as_nobody):
     if not as_nobody.by:
         pytest.skip("a user other than root has the right to change the folder's rights alone")

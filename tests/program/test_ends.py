@@ -150,6 +150,7 @@ def no_version(path):
 @pytest.mark.parametrize("make, name", [(empty_file, "NotAnIndex"), (other_tables, "NotAnIndex"),
                                         (another_version, "OtherVersion"), (no_version, "NotAnIndex")],
                          ids=lambda it: getattr(it, "__name__", ""))
+@pytest.mark.told("`OtherVersion` after going back")
 def test_a_database_that_is_no_index_is_refused(program, end, folder, job, make, name):
     path = f"{folder}/other.db"
     if make in (another_version, no_version):
@@ -228,8 +229,20 @@ def test_serve_gives_a_file_of_the_database(program, path):
     assert (status, body) == (200, b"abc")
 
 
+@pytest.mark.told("`index: Store`")
 def test_bytes_with_another_digest_are_a_fault_of_the_store(program, path):
     by_sqlite(path, "UPDATE blobs SET body = x'61'")
     with Index(program, path=path) as index:
         status, _, body = index.ask("GET", LOOK)
     assert (status, body) == (500, b'{"answer":"fault","name":"Store"}')
+
+
+def test_each_answer_is_written_at_once(program):
+    """Whoever reads the pipe, or ends the program, sees whole lines alone. A socket of packets shows each write."""
+    ours, its = socket.socketpair(socket.AF_UNIX, socket.SOCK_SEQPACKET)
+    with ours, subprocess.Popen([program, "apply"], stdin=subprocess.PIPE, stdout=its) as run:
+        its.close()
+        run.stdin.write(2 * line_of("office", do="claim", name="frob") + b'{"standing":"frob"}\n')
+        run.stdin.close()
+        packets = [*iter(lambda: ours.recv(1 << 16), b"")]
+    assert [it.count(b"\n") for it in packets] == [1, 1, 1] and all(it.endswith(b"\n") for it in packets), packets

@@ -9,6 +9,7 @@ import subprocess
 import sys
 
 import pytest
+from support.needed import want_commands_of
 from support.places import TOP
 from support.running import run_command
 
@@ -35,6 +36,8 @@ MISTAKES = [
     ("tools/try --folder {folder}/..", "is not empty, and this command has not made it"),
     ("tools/build --lanes 0", "a number above 0 is wanted"),
     ("tools/try-edits --share 1/0", "a share such as 2/4 is wanted"),
+    ("tools/try-rules --share 1/0", "a share such as 2/4 is wanted"),
+    ("tools/try-rules --only none", "no refusal has the name none"),
     ("bench/bench --program {folder}", "no program is at"),
     ("bench/bench --part none", "invalid choice: 'none'"),
     ("bench/bench-behind-nginx --program {folder}", "no program is at"),
@@ -80,6 +83,7 @@ def answers(tmp_path, looked):
 
 @pytest.mark.parametrize("line, said", MISTAKES)
 def test_a_mistake_is_answered_in_one_sentence(answers, line, said):
+    want_commands_of(line)
     answers(line, said)
 
 
@@ -96,11 +100,6 @@ def test_what_is_not_installed_is_named(answers, tmp_path, line, said):
         os.symlink(shutil.which(name), tmp_path / "bin" / name)
     os.symlink(PYTHON, tmp_path / "bin" / "python3")
     answers(line, said, PATH=f"{tmp_path}/bin")
-
-
-def test_the_packages_of_the_tests_are_named_if_they_are_missing(answers):
-    answers(f"{PYTHON} -S tests/run --quick --program {{index}}",
-            "these packages of Debian are not installed: python3-pytest, python3-pytest-timeout, python3-pytest-xdist")
 
 
 @pytest.mark.parametrize("command", COMMANDS)

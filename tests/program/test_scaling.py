@@ -9,8 +9,9 @@ from support.places import TOP
 MIB, GBIT = 1 << 20, 10 ** 9 / 8
 # what the page's users do, the machines that it reckons with, and what it says of an index and of nginx
 SAID = re.compile(
-    r"with ([\d.]+) times the bytes for memory.*?an index below (\d+) GB.*?with (\d+) GB free and (\d+) Gbit/s.*?"
-    r"install (\d+) packages of 1 MiB (\d+) times a day, a fifth in one hour.*?"
+    r"memory: ([\d.]+) times the bytes of the database.*?an index below (\d+) GB.*?"
+    r"with (\d+) GB free and (\d+) Gbit/s.*?"
+    r"installs (\d+) packages of 1 MiB (\d+) times a day, a fifth of them in one hour.*?"
     r"([\d,]+) pages and ([\d,]+) files\S+ a second, .*? ([\d,]+) users for each Gbit/s", re.DOTALL)
 ROW = re.compile(r"^\| ([\d,]+) \| ([\d,]+) \| (\d+) \| (\d+) \| (\d+) \|$", re.MULTILINE)
 

@@ -6,7 +6,8 @@ import sqlite3
 from contextlib import closing
 
 import pytest
-from support.serving import ACCEPTED, ALREADY, JSON_PAGE, Index, reply_to, sha256
+from support.model.pages import HTML, JSON_1, Listed, page_of_files, page_of_names
+from support.serving import ACCEPTED, ALREADY, Index, reply_to, sha256
 from support.subcommands import End
 from support.workload import line_of
 
@@ -16,7 +17,7 @@ LONGEST_LINE, LONGEST_POST, LONGEST_FILE = 65_536, 65_536, 16_777_216
 # of many rows, and of a program that was not proved and is slower
 ROWS, ROWS_OF_AN_UNPROVED_PROGRAM = 70_000, 7_000
 # so many names of this length, the longest, make root pages of above 8 MiB
-LENGTH, LONG_PAGES = 128, {"HTML": 29_500, "JSON": 60_000}
+LENGTH, LONG_PAGES = 128, {HTML: 29_500, JSON_1: 60_000}
 # lines of so many bytes are given to one `apply`
 MUCH = 17 << 20
 QUOTA = 1 << 30
@@ -188,31 +189,14 @@ def fill(path, names, files):
     return path
 
 
-def json_root(names):
-    return as_text({"meta": {"api-version": "1.1"}, "projects": [{"name": name} for name in sorted(["frob", *names])]})
+def root_of(names, kind):
+    """The page of these names and of `frob`."""
+    return page_of_names([(name, name) for name in sorted(["frob", *names])], kind).encode()
 
 
-def json_page(files):
-    listed = [{"filename": file, "hashes": {"sha256": ABC}, "size": 3, "url": f"/files/frob/{file}"}
-              for file in sorted(files)]
-    versions = sorted(file[5:-7] for file in files)
-    return as_text({"files": listed, "meta": {"api-version": "1.1"}, "name": "frob", "versions": versions})
-
-
-def html(title, heading, anchors):
-    head = ('<!DOCTYPE html>\n<html>\n<head>\n<meta charset="utf-8">\n'
-            '<meta name="pypi:repository-version" content="1.0">\n')
-    return f"{head}<title>{title}</title>\n</head>\n<body>\n{heading}{''.join(anchors)}</body>\n</html>\n".encode()
-
-
-def html_root(names):
-    return html("Simple index", "",
-                [f'<a href="/simple/{name}/">{name}</a><br>\n' for name in sorted(["frob", *names])])
-
-
-def html_page(files):
-    anchors = [f'<a href="/files/frob/{file}#sha256={ABC}">{file}</a><br>\n' for file in sorted(files)]
-    return html("Links for frob", "<h1>Links for frob</h1>\n", anchors)
+def page_of(files, kind):
+    """The page of `frob` with these files."""
+    return page_of_files("frob", [Listed(file, file[5:-7], ABC, 3) for file in sorted(files)], kind).encode()
 
 
 def page_differs(index, path, accept, wanted):
@@ -240,24 +224,23 @@ def test_many_rows_have_their_pages_and_report(program, is_proved, end, index_fi
     looked([line.split() for line in report.output.decode().splitlines()] == report_of(names, count),
            report.status, report.error, report.output[:300])
     with Index(program, path=index_file, patience=300) as index:
-        for accept, root, page in ((JSON_PAGE, json_root(names), json_page(files)),
-                                   ("text/html", html_root(names), html_page(files))):
-            for path, wanted in (("/simple/", root), ("/simple/frob/", page)):
-                differs = page_differs(index, path, accept, wanted)
-                looked(not differs, path, accept, differs)
+        for kind in (JSON_1, HTML):
+            for path, wanted in (("/simple/", root_of(names, kind)), ("/simple/frob/", page_of(files, kind))):
+                differs = page_differs(index, path, kind, wanted)
+                looked(not differs, path, kind, differs)
 
 
 @pytest.mark.slow
-@pytest.mark.parametrize("kind", LONG_PAGES)
+@pytest.mark.parametrize("kind", LONG_PAGES, ids=("HTML", "JSON"))
 def test_a_root_page_of_above_eight_mebibytes(program, is_proved, index_file, looked, kind):
     if not is_proved:
         pytest.skip("a program that was not proved takes minutes to open so many rows")
     names = [f"{number:0>{LENGTH}}" for number in range(LONG_PAGES[kind])]
-    accept, wanted = (JSON_PAGE, json_root(names)) if kind == "JSON" else ("text/html", html_root(names))
+    wanted = root_of(names, kind)
     looked(len(wanted) > 8 << 20, "it is long", len(wanted))
     fill(index_file, names, [])
     for keep in (None, 0):
         with Index(program, path=index_file, patience=600, keep=keep) as index:
             for _ in range(2):
-                differs = page_differs(index, "/simple/", accept, wanted)
+                differs = page_differs(index, "/simple/", kind, wanted)
                 looked(not differs, keep, differs)

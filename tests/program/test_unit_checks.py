@@ -1,11 +1,13 @@
-"""Which files tools/check-docs and tools/check-style look at, and how they print what the locale lacks."""
+"""Which files tools/check-docs and tools/check-style look at, what they want of CHANGELOG, and how they print what the
+locale lacks."""
 from __future__ import annotations
 
 import os
 import sys
 
+import pytest
 import top
-from pages import files
+from pages import changes, files
 from support.places import TOP
 from support.running import run_command, write_below
 from trial import parser_of
@@ -32,3 +34,24 @@ def test_what_the_locale_lacks_is_printed_as_an_escape():
 def test_no_output_is_needed(monkeypatch):
     monkeypatch.setattr(sys, "stdout", None)
     assert parser_of("a", has_program=False)
+
+
+def a_section(new=("1. New.",), first="### What you do first, as an operator\n\n1. Nothing.\n", more=""):
+    """The text of a section of CHANGELOG."""
+    lines = "".join(f"{it}\n" for it in new)
+    return f"### What is new for you, as a user\n\n{lines}\n{first}\n{more}"
+
+
+@pytest.mark.parametrize("text,count", [
+    (a_section(), 0),
+    (a_section(new=[f"{at}. New." for at in range(1, 6)]), 0),
+    (a_section(new=[f"{at}. New." for at in range(1, 7)]), 1),
+    (a_section(new=()), 1),
+    (a_section(first=""), 1),
+    ("- New.\n", 1),
+    (a_section(more="word " * 1_479), 0),
+    (a_section(more="word " * 1_480), 1),
+], ids=["one line", "five lines", "six lines", "nothing for a user", "nothing for an operator", "a list",
+        "1,500 words", "1,501 words"])
+def test_a_section_of_changes_begins_with_what_its_readers_do_and_is_short(text, count):
+    assert len(list(changes.faults("9.8.7", text))) == count

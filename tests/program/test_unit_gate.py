@@ -1,11 +1,9 @@
-"""The gate installs what its tests ask for: a test that is skipped there sees nothing. And tests that share what takes
-long run in one process, so that it is made once."""
+"""How the gate runs its parts, counts its turns, and ends. And tests that share what takes long run in one process, so
+that it is made once."""
 from __future__ import annotations
 
-import glob
 import os
 import re
-import shutil
 import signal
 import subprocess
 import sys
@@ -16,25 +14,6 @@ from support.inner_runs import run_tests
 from support.places import TOP
 from support.programs import program_of
 from support.running import run_command
-
-ASKED = re.compile(r'want_(?:command|module)\((?:\w+, )?"[^"]+", "([^"]+)"\)')
-# the packages of a line of .ci/run
-INSTALLS = re.compile(r"^(?:need .* --| *install)((?: +[a-z][\w.+-]*)+)$", re.M)
-# of each Debian, or with another package
-THERE = {"systemd", "util-linux", "python3-keyring"}
-# of tests that are run by hand alone
-BY_HAND = {"debootstrap"}
-
-
-def test_each_package_that_a_test_asks_for_is_installed():
-    asked = set()
-    for path in glob.glob(f"{TOP}/tests/**/*.py", recursive=True):
-        with open(path, encoding="utf-8") as kept:
-            asked |= {*ASKED.findall(kept.read())}
-    with open(f"{TOP}/.ci/run", encoding="utf-8") as kept:
-        installed = {*" ".join(INSTALLS.findall(kept.read().replace("\\\n", ""))).split()}
-    assert {"nginx-light", "nftables", "python3-html5lib"} <= asked
-    assert not asked - installed - THERE - BY_HAND
 
 
 def test_tests_of_a_group_go_to_one_worker():
@@ -85,29 +64,6 @@ def test_a_list_of_the_gate_that_is_cut_off_ends_without_a_word():
         assert listing.stderr.read() == b"" and listing.wait(timeout=60) == -signal.SIGPIPE
 
 
-# in the place of commands of Debian: a package of a kernel is an archive, and one alone can be unpacked
-APT = """#!/bin/sh
-case "$*" in *download*) mkdir -p boot lib && tar -cf linux-image-6_2_amd64.deb ./boot ./lib;; esac
-"""
-CACHE = "#!/bin/sh\necho '  Depends: linux-image-6'\n"
-DPKG = "#!/bin/sh\n[ $# = 2 ] && exec cat \"$2\"\n"
-
-
-def test_a_kernel_that_a_killed_run_was_unpacking_is_unpacked_by_the_next(tmp_path):
-    for name, text in (("apt-get", APT), ("apt-cache", CACHE), ("dpkg-deb", DPKG), ("tests/run", "#!/bin/sh\n")):
-        path = tmp_path / name if "/" in name else tmp_path / "bin" / name
-        path.parent.mkdir(exist_ok=True)
-        path.write_text(text)
-        path.chmod(0o755)
-    (tmp_path / ".ci").mkdir()
-    shutil.copy(f"{TOP}/.ci/run", tmp_path / ".ci/run")
-    (tmp_path / "tests/out/kernel.part").mkdir(parents=True)
-    (tmp_path / "tests/out/kernel.part/linux-image-6_1_amd64.deb").write_text("half")
-    ended = run_command([f"{tmp_path}/.ci/run"], PATH=f"{tmp_path}/bin:{os.environ['PATH']}")
-    assert ended.returncode == 0 and os.listdir(tmp_path / "tests/out") == ["kernel"], ended.stdout
-    assert sorted(os.listdir(tmp_path / "tests/out/kernel")) == ["boot", "lib"]
-
-
 # in the place of the kit, which knows no crate
 KIT = """class rtlib:
     guarded = staticmethod(lambda: [])
@@ -135,7 +91,7 @@ gate = SourceFileLoader("gate", {TOP + "/tests/run"!r}).load_module()
 def part(name):
     talks = "trap 'seq 100000; exit 1' INT; echo begun $0; sleep 60 >&- 2>&- & wait"
     return gate.Part(name, ["sh", "-c", talks, name], "")
-gate.want = lambda has_proofs: None
+gate.prepare = lambda given: None
 def whole(jobs):
     for number in signal.SIGINT, signal.SIGTERM:
         signal.siginterrupt(number, comes == "at once")

@@ -12,7 +12,9 @@ from pathlib import Path
 
 import pytest
 from support.places import TOP
-from support.running import goes_on
+from support.programs import program_of
+from support.running import goes_on as runs
+from support.running import write_below
 from support.server.waits import wait_for
 
 # it serves nobody, so a client goes on to ask
@@ -44,8 +46,38 @@ def test_a_trial_that_is_ended_serves_no_longer(clone, name):
         assert wait_for(lambda: serves.exists() and serves.read_text(), 60)
         command.send_signal(signal.Signals[f"SIG{name}"])
         _, wrong = command.communicate(timeout=60)
-    assert wait_for(lambda: not goes_on(int(serves.read_text())), 10)
+    assert wait_for(lambda: not runs(int(serves.read_text())), 10)
     assert command.returncode == 130 and wrong.strip().startswith("interrupted: what is built is kept")
+
+
+def test_a_signal_that_comes_as_the_server_starts_ends_it(clone, monkeypatch):
+    trial, started = program_of(f"{TOP}/tools/try"), []
+
+    class Starts(subprocess.Popen):
+        def __init__(self, *words, **more):
+            super().__init__(*words, **more)
+            started.append(self)
+            os.kill(os.getpid(), signal.SIGINT)
+
+    monkeypatch.setattr(trial.subprocess, "Popen", Starts)
+    with pytest.raises(KeyboardInterrupt), trial.served(clone / "crates/index/out/index", Path("index.db")):
+        pass
+    assert [it.poll() is not None for it in started] == [True]
+
+
+@pytest.mark.parametrize("words, whole, goes_on, said", [
+    ([], True, True, "has the index of an earlier call, and goes on with it; --new makes another"),
+    (["--new"], True, False, "which an earlier call has made"),
+    ([], False, False, "which a call left that was cut off")])
+def test_a_trial_goes_on_with_an_earlier_index_or_says_what_it_removes(tmp_path, capsys, words, whole, goes_on, said):
+    trial, folder = program_of(f"{TOP}/tools/try"), tmp_path / "a trial"
+    for path in (".made-by-tools-try", "index.db", *(["installed/frob.py"] if whole else [])):
+        write_below(folder, path, "kept")
+    assert trial.goes_on(folder, is_new=bool(words)) == goes_on
+    assert (folder / "index.db").exists() == goes_on and (folder / ".made-by-tools-try").exists()
+    out = capsys.readouterr().out
+    assert said in out and str(folder) in out
+    assert trial.goes_on(tmp_path / "another", is_new=False) is False and capsys.readouterr().out == ""
 
 
 def test_the_last_lines_hold_in_the_folder_where_the_trial_was_called(monkeypatch, tmp_path):
@@ -55,6 +87,8 @@ def test_the_last_lines_hold_in_the_folder_where_the_trial_was_called(monkeypatc
     lines = trial["next_lines"](trial["PROVED"], folder).splitlines()[1:]
     serve, claim, upload, install = [shlex.split(it) for it in lines]
     assert Path(serve[0]).resolve() == trial["PROVED"] and Path(serve[3]).resolve() == folder / "index.db"
+    # of the pages and files of a day, so that it does not end after some
+    assert int(serve[serve.index("--requests") + 1]) >= 1_000_000
     for line in (claim, upload):
         assert Path(line[1].partition("=")[2]).resolve() == folder / "ann.token"
         assert line[2] == "python3" and os.path.samefile(line[3], f"{TOP}/indexctl")

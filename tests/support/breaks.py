@@ -43,7 +43,6 @@ class Break:
     changes: list = field(default_factory=list)
     program: str = ""
     alter: str = ""
-    is_moved: bool = True
     fault: str = ""
 
     @property
@@ -168,8 +167,6 @@ def read(source: str, number: int, block: str) -> Break:
             old = ""
         elif key == "caught":
             found.caught.append(value)
-        elif key in ("part", "fails"):
-            found.is_moved = False
         elif colon and key in ("name", "program", "alter"):
             setattr(found, key, value)
         else:

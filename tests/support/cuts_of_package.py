@@ -29,9 +29,10 @@ EMPTY = ("lib/dpkg/info", "lib/dpkg/updates", "lib/dpkg/triggers", "lib/dpkg/par
 CONFIGURE = "dpkg --force-depends --configure --pending"
 INSTALLED = "install ok installed"
 STATE = "dpkg-query -W -f '${Status}' package-index"
-MADE = ("cd /var; stat -c '%U %G %a' lib/index backups/index cache/nginx log/nginx log/nginx/index-changes.log; "
+MADE = ("cd /var; stat -c '%U %G %a' lib/index backups/index cache/nginx log/nginx log/package-index "
+        "log/package-index/changes.log; "
         "getent passwd index | cut -d : -f 1")
-WANTED = "index index 700\nroot root 700\nroot root 755\nroot root 755\nwww-data adm 640\nindex\n"
+WANTED = "index index 700\nroot root 700\nroot root 755\nroot root 755\nroot adm 751\nwww-data adm 640\nindex\n"
 
 
 def ended(at: str, script: str) -> str:

@@ -1,8 +1,8 @@
 """Calls that fail under `serve`: those of the database's files, and those on connections."""
-import json
 import re
 
 from support.judge import answers_are_right, kept_lines, seen_by_sqlite
+from support.model.pages import JSON_1, Listed, page_of_files, page_of_names
 from support.serving import JSON_PAGE, Index, parts_of, reply_to
 from support.workload import REQUESTS, STORE, message_of, status_of
 
@@ -47,22 +47,11 @@ class Served:
 def shown(rows):
     """What the three looks give of these rows, with None where there is no such page or file."""
     names = [(name, text) for name, state, text, *_ in rows["names"] if state == 1]
-    root = {"meta": {"api-version": "1.1"}, "projects": [{"name": text} for _, text in names]}
-    yanks = {(name, release): reason or True for name, release, reason in rows["yanks"]}
-    files, versions = [], set()
-    for file, name, release, digest, size, requires, live in rows["files"]:
-        if name == "frob" and live:
-            versions.add(release)
-            row = {"filename": file, "hashes": {"sha256": digest.hex()}, "size": size, "url": f"/files/frob/{file}"}
-            row |= {"requires-python": requires} if requires else {}
-            files.append(row | ({"yanked": yanks[name, release]} if (name, release) in yanks else {}))
-    page = {"files": files, "meta": {"api-version": "1.1"}, "name": "frob", "versions": sorted(versions)}
-    bodies = dict(rows["blobs"])
-    return [as_text(root), as_text(page) if "frob" in dict(names) else None, bodies.get("frob-1.0.tar.gz")]
-
-
-def as_text(value):
-    return json.dumps(value, separators=(",", ":"), sort_keys=True, ensure_ascii=False).encode()
+    yanks = {(name, release): reason for name, release, reason in rows["yanks"]}
+    files = [Listed(file, release, digest.hex(), size, requires, yanks.get((name, release)))
+             for file, name, release, digest, size, requires, live in rows["files"] if name == "frob" and live]
+    page = page_of_files("frob", files, JSON_1).encode() if "frob" in dict(names) else None
+    return [page_of_names(names, JSON_1).encode(), page, dict(rows["blobs"]).get("frob-1.0.tar.gz")]
 
 
 class Judged:

@@ -15,7 +15,7 @@ from support.places import TOP
 
 # what the tests read of the repository, without what was built
 ROOMS = ("server", "indexctl", "tests", "tools", "docs", "bench", "crates/index_request_tests/src/tests")
-FILES = ("LICENSE", "CHANGELOG.md", "README.md", ".ci/run", "crates/index_args/src/command.rt",
+FILES = ("LICENSE", "crates.txt", "CHANGELOG.md", "README.md", ".ci/run", "crates/index_args/src/command.rt",
          "crates/index/src/serving.rt", "crates/index/stdin", "crates/index/stdout",
          "crates/index_rules/src/decision/files.rt")
 # for the fixtures of a run that is interrupted, to end what they started

@@ -8,6 +8,9 @@ from support.model.messages import PHRASES, STATUS
 from support.model.pages import HTML, JSON_1
 from support.model.tables import Tables
 
+# how often a line or a message asks what has not had all its answers yet
+OF_UNMET = 0.15
+
 
 class Writing:
     """The steps of one run, chosen one after the other, with the tables of the model as they are then."""
@@ -18,17 +21,22 @@ class Writing:
         self.chooser = Chooser(chance, self.tables)
 
     def take(self, step, do=None):
-        """Adds a step, and counts its answer; of a request that is accepted also what it asked."""
+        """Adds a step, and counts its answer, also with what was asked."""
         self.steps.append(step)
         told = told_of(by_model(self.tables, step))
         self.met[told] += 1
-        if do and told.endswith("accepted"):
-            self.met[f"accepted: {do}"] += 1
+        if do:
+            self.met[f"{do}:{told.split()[-1]}"] += 1
         self.chooser.settle()
+
+    def request(self):
+        """What is asked next; at times one that has not had all its answers yet."""
+        unmet = [it for it in pairs() if not self.met[it]] if self.random.random() < OF_UNMET else []
+        return self.chooser.request(self.random.choice(unmet).partition(":")[0] if unmet else None)
 
     def lines(self, count):
         for _ in range(count):
-            at, token, asked = self.chooser.request()
+            at, token, asked = self.request()
             line = line_of(at, token, asked)
             if self.random.random() < 0.06:
                 self.take(Step("line", odd_line(self.random, line)))
@@ -46,7 +54,7 @@ class Writing:
             if kind < 0.35:
                 message, do, line = look(self.random, self.chooser), None, None
             else:
-                _, token, asked = self.chooser.request()
+                _, token, asked = self.request()
                 message, do, line = message_of(self.random, token, asked), asked["do"], line_of(at, token, asked)
             if kind > 0.76:
                 message, do, line = odd_message(self.random, message), None, None
@@ -62,7 +70,7 @@ class Writing:
             asked = {"do": "record_attempt", "name": name, "means": "author", "sent": False}
             line = line_of(self.chooser.now, self.chooser.tokens["office"], asked)
             for _ in range(rules.MOST_ATTEMPTS + 1 - self.tables.held[name].case.attempts):
-                self.take(Step("line", line))
+                self.take(Step("line", line), asked["do"])
 
     def everything(self):
         """A look at all that there is."""
@@ -101,8 +109,13 @@ def written_run(chance, number, met):
     return store, writing.steps
 
 
+def pairs():
+    """Each request with each answer that it can have, but an upload with TooLarge: no line is so long."""
+    answers = {do: ("accepted", *(rules.NAME_OF[it] for it in (1, 2, *row))) for do, row in rules.REFUSALS_OF.items()}
+    return [f"{do}:{it}" for do, its in answers.items() for it in its if it != "TooLarge"]
+
+
 def wanted():
-    """What runs have to meet: each status, each refusal but TooLarge, what asks nothing, and each request accepted."""
+    """What runs have to meet: each status, what asks nothing, and each pair of a request and an answer."""
     names = [name for name in STATUS if isinstance(name, str)]
-    words = [*map(str, PHRASES), *rules.NAME_OF.values(), *names, "already", *rules.EFFECT]
-    return [word for word in words if word != "TooLarge"]
+    return [*map(str, PHRASES), *names, "already", *pairs()]

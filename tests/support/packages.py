@@ -1,11 +1,15 @@
 """packages.py FOLDER: makes the packages that the tools upload, small wheels and a source archive that builds
 offline."""
+from __future__ import annotations
+
 import argparse
 import base64
 import hashlib
 import io
 import tarfile
 import zipfile
+from os import PathLike
+from typing import Iterable, Mapping
 
 # What a source archive is built by: it packs the folder `built` as it is, and needs no other package.
 BACKEND = '''import os, zipfile
@@ -22,16 +26,16 @@ def build_wheel(folder, config_settings=None, metadata_directory=None):
 PYPROJECT = '[build-system]\nrequires = []\nbuild-backend = "backend"\nbackend-path = ["."]\n'
 
 
-def wheel_name(name, version):
+def wheel_name(name: str, version: str) -> str:
     return f"{name}-{version}-py3-none-any.whl"
 
 
-def recorded(path, data):
+def recorded(path: str, data: bytes) -> str:
     digest = base64.urlsafe_b64encode(hashlib.sha256(data).digest()).rstrip(b"=").decode()
     return f"{path},sha256={digest},{len(data)}\n"
 
 
-def wheel_files(name, version, code, needs=(), requires=""):
+def wheel_files(name: str, version: str, code: str, needs: Iterable[str] = (), requires: str = "") -> dict[str, str]:
     """The files of a wheel with one module, by path."""
     info = f"{name}-{version}.dist-info"
     metadata = f"Metadata-Version: 2.1\nName: {name}\nVersion: {version}\n"
@@ -46,13 +50,13 @@ def wheel_files(name, version, code, needs=(), requires=""):
     return {**files, f"{info}/RECORD": f"{record}{info}/RECORD,,\n"}
 
 
-def make_wheel(path, files):
+def make_wheel(path: str | PathLike[str], files: Mapping[str, str | bytes]) -> None:
     with zipfile.ZipFile(path, "w") as wheel:
         for name, text in files.items():
             wheel.writestr(name, text)
 
 
-def make_source(path, name, version, files):
+def make_source(path: str | PathLike[str], name: str, version: str, files: Mapping[str, str]) -> None:
     """A source archive (PEP 625) whose build (PEP 517) packs these files."""
     front = f"{name}-{version}"
     inside = {f"built/{inner}": text for inner, text in files.items()}
@@ -66,11 +70,11 @@ def make_source(path, name, version, files):
             archive.addfile(entry, io.BytesIO(text.encode()))
 
 
-def make_packages(folder):
+def make_packages(folder: str | PathLike[str]) -> dict[str, dict[str, tuple[str, str]]]:
     """For each project its files by name: the path, and the Python versions that its upload declares."""
-    made = {"frob": {}, "spam-nest": {}}
+    made: dict[str, dict[str, tuple[str, str]]] = {"frob": {}, "spam-nest": {}}
 
-    def wheel(project, name, version, code, needs=(), requires=""):
+    def wheel(project: str, name: str, version: str, code: str, needs: Iterable[str] = (), requires: str = "") -> None:
         file = wheel_name(name, version)
         make_wheel(f"{folder}/{file}", wheel_files(name, version, code, needs))
         made[project][file] = f"{folder}/{file}", requires
@@ -85,7 +89,7 @@ def make_packages(folder):
     return made
 
 
-def main():
+def main() -> None:
     parser = argparse.ArgumentParser(description=__doc__)
     parser.add_argument("folder", metavar="FOLDER", help="a folder that exists")
     make_packages(parser.parse_args().folder)

@@ -281,9 +281,10 @@ class Chooser:
         "add_owner": 5, "remove_owner": 4, "upload": 28, "delete": 7, "ban_file": 2, "yank": 8, "unyank": 4,
         "open_case": 8, "record_attempt": 22, "transfer": 15, "close_case": 1, "answer_case": 1, "standing": 4}
 
-    def request(self):
-        """The moment, the token and what is asked next. `settle` is to follow, once the model has answered it."""
-        do = self.random.choices([*self.OFTEN], [*self.OFTEN.values()])[0]
+    def request(self, do=None):
+        """The moment, the token and what is asked next, which may be given. `settle` is to follow, once the model has
+        answered it."""
+        do = do or self.random.choices([*self.OFTEN], [*self.OFTEN.values()])[0]
         at, token, asked = getattr(self, do)()
         if do == "upload" and asked["file"] not in self.tables.files:
             self.bodies[asked["file"]] = asked["body"]

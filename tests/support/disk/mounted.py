@@ -38,7 +38,7 @@ def missing(file_system: str) -> str:
             return f"{path} is not there"
     if subprocess.run(["which", MAKE[file_system][0]], stdout=subprocess.DEVNULL).returncode:
         package = "e2fsprogs" if file_system == "ext4" else f"{file_system}progs"
-        return f"{MAKE[file_system][0]} is missing: it is in {package}"
+        return f"{MAKE[file_system][0]} is not installed: package {package} of Debian has it"
     return ""
 
 

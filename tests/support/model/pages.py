@@ -1,6 +1,7 @@
 """The pages that pip reads, and the choice between them (docs/reference/PAGES.md)."""
 import json
 import re
+from typing import NamedTuple, Optional
 
 HTML = "text/html"
 HTML_1 = "application/vnd.pypi.simple.v1+html"
@@ -27,41 +28,60 @@ def json_page(page):
     return json.dumps(page, ensure_ascii=False, separators=(",", ":"), sort_keys=True)
 
 
+class Listed(NamedTuple):
+    """A file as a page lists it. `yank` is the reason, or None if its release is not yanked."""
+    file: str
+    release: str
+    digest: str
+    size: int
+    requires: str = ""
+    yank: Optional[str] = None
+
+
+def page_of_names(names, kind):
+    """The page of these names: of each the name and the name as it is shown."""
+    if kind == JSON_1:
+        return json_page({"meta": META, "projects": [{"name": shown} for _, shown in names]})
+    return html_page("Simple index", [f'<a href="/simple/{name}/">{escaped(shown)}</a><br>' for name, shown in names])
+
+
+def page_of_files(name, files, kind):
+    """The page of a project with these files."""
+    if kind == JSON_1:
+        versions = sorted({it.release for it in files})
+        return json_page({"files": [json_file(name, it) for it in files], "meta": META, "name": name,
+                          "versions": versions})
+    title = f"Links for {name}"
+    return html_page(title, [f"<h1>{title}</h1>", *(html_file(name, it) for it in files)])
+
+
 def root_page(tables, kind):
     """The names that are held, also those without files."""
-    held = sorted(tables.held.items())
-    if kind == JSON_1:
-        return json_page({"meta": META, "projects": [{"name": it.shown} for _, it in held]})
-    return html_page("Simple index", [f'<a href="/simple/{name}/">{escaped(it.shown)}</a><br>' for name, it in held])
+    return page_of_names([(name, it.shown) for name, it in sorted(tables.held.items())], kind)
 
 
 def project_page(tables, name, kind):
     """The undeleted files of a held name."""
-    files, yanks = tables.undeleted(name), tables.held[name].yanks
-    if kind == JSON_1:
-        versions = sorted({file.release for file in files.values()})
-        listed = [json_file(name, spelled, file, yanks) for spelled, file in files.items()]
-        return json_page({"files": listed, "meta": META, "name": name, "versions": versions})
-    title = f"Links for {name}"
-    listed = [html_file(name, spelled, file, yanks) for spelled, file in files.items()]
-    return html_page(title, [f"<h1>{title}</h1>", *listed])
+    yanks = tables.held[name].yanks
+    return page_of_files(name, [Listed(spelled, it.release, it.digest, it.size, it.requires, yanks.get(it.release))
+                                for spelled, it in tables.undeleted(name).items()], kind)
 
 
-def html_file(name, spelled, file, yanks):
-    marks = f' data-requires-python="{escaped(file.requires)}"' if file.requires else ""
-    if file.release in yanks:
-        marks += f' data-yanked="{escaped(yanks[file.release])}"'
-    return f'<a href="/files/{name}/{spelled}#sha256={file.digest}"{marks}>{spelled}</a><br>'
+def html_file(name, listed):
+    marks = f' data-requires-python="{escaped(listed.requires)}"' if listed.requires else ""
+    if listed.yank is not None:
+        marks += f' data-yanked="{escaped(listed.yank)}"'
+    return f'<a href="/files/{name}/{listed.file}#sha256={listed.digest}"{marks}>{listed.file}</a><br>'
 
 
-def json_file(name, spelled, file, yanks):
-    url = f"/files/{name}/{spelled}"
-    listed = {"filename": spelled, "hashes": {"sha256": file.digest}, "size": file.size, "url": url}
-    if file.requires:
-        listed["requires-python"] = file.requires
-    if file.release in yanks:
-        listed["yanked"] = yanks[file.release] or True
-    return listed
+def json_file(name, listed):
+    row = {"filename": listed.file, "hashes": {"sha256": listed.digest}, "size": listed.size,
+           "url": f"/files/{name}/{listed.file}"}
+    if listed.requires:
+        row["requires-python"] = listed.requires
+    if listed.yank is not None:
+        row["yanked"] = listed.yank or True
+    return row
 
 
 def coverage(media_range):

@@ -114,8 +114,13 @@ def no_user(call):
     return call.user is None
 
 
+def is_user(call):
+    """Whether the user exists with this flag and this digest."""
+    return call.user == User(call.asked["office"], call.asked["token_sha256"])
+
+
 def user_exists(call):
-    return call.user is not None and call.user != User(call.asked["office"], call.asked["token_sha256"])
+    return call.user is not None and not is_user(call)
 
 
 def token_taken(call):
@@ -321,7 +326,7 @@ REFUSALS_OF = {
     "record_attempt": (3, 5, 17, 30, 31), "transfer": (3, 5, 17, 30, 32, 33, 34, 35), "close_case": (3, 5, 17, 30),
     "answer_case": (5, 17, 18, 30)}
 ALREADY = {
-    "add_user": lambda call: call.user is not None,
+    "add_user": is_user,
     "set_token": lambda call: call.user.digest == call.asked["token_sha256"],
     "set_quota": lambda call: call.held.quota == call.asked["quota"],
     "prohibit": name_prohibited,

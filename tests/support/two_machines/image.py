@@ -36,7 +36,7 @@ def command(name: str) -> str:
 
 
 def kernel_root() -> str:
-    """Where Debian's kernel for virtual machines is: installed, or unpacked by .ci/run. Skips the test without one."""
+    """Where Debian's kernel for virtual machines is: installed, or unpacked by tests/run. Else the test is skipped."""
     for root in ("", f"{TOP}/tests/out/kernel"):
         if glob.glob(f"{root}/boot/vmlinuz-*-cloud-amd64") and ordered(root, ["drbd"]):
             return root
