@@ -6,11 +6,10 @@ import subprocess
 import sys
 
 import pytest
-from support.debian_wheels import PARTS, make_debian_wheel
+from support.debian_wheels import upload_all
 from support.inner_runs import copy_rooms
 from support.needed import want_module
 from support.running import write_below
-from support.serving import accepted
 
 # what `tests/run` does first, where Debian's Python has no pytest either
 SCRIPT = """import os, sys
@@ -38,16 +37,12 @@ def run(copy: str, url: str) -> subprocess.CompletedProcess:
 @pytest.mark.timeout(900)
 def test_a_user_without_pytest_gets_it_by_pip_once(index, tmp_path, looked):
     want_module("ensurepip", "python3-venv")
-    for project in PARTS:
-        path = make_debian_wheel(project, str(tmp_path))
-        with open(path, "rb") as kept:
-            accepted(index.claim(project))
-            accepted(index.upload(project, os.path.basename(path), kept.read()))
+    url = upload_all(index, str(tmp_path))
     copy = copy_rooms(f"{tmp_path}/copy")
     subprocess.run([sys.executable, "-m", "venv", "--without-pip", f"{copy}/bare"], check=True)
     write_below(copy, "script.py", SCRIPT)
     write_below(copy, "goes_on.py", GOES_ON)
-    first, again = (run(copy, url) for url in (f"http://127.0.0.1:{index.port}/simple/", "http://127.0.0.1:1/"))
+    first, again = (run(copy, url) for url in (url, "http://127.0.0.1:1/"))
     for ended in (first, again):
         lines = ended.stdout.splitlines()
         looked(ended.returncode == 0 and lines[-1].endswith(" passed, 0 failed"), ended.stdout)

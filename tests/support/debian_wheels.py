@@ -6,6 +6,7 @@ import os
 from importlib import metadata
 
 from support.packages import make_wheel, recorded
+from support.serving import Index, accepted
 
 # of each project its modules, and the projects that they need
 PARTS = {
@@ -48,3 +49,13 @@ def make_debian_wheel(project: str, folder: str) -> str:
     path = f"{folder}/{name}-{version}-py3-none-any.whl"
     make_wheel(path, {**files, f"{info}/RECORD": record.encode()})
     return path
+
+
+def upload_all(index: Index, folder: str) -> str:
+    """Uploads a wheel of each of these projects, and returns where pip finds them."""
+    for project in PARTS:
+        path = make_debian_wheel(project, folder)
+        with open(path, "rb") as kept:
+            accepted(index.claim(project))
+            accepted(index.upload(project, os.path.basename(path), kept.read()))
+    return f"http://127.0.0.1:{index.port}/simple/"

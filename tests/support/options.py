@@ -61,5 +61,7 @@ def add_options(parser) -> None:
                     "signal: some minutes each; with --machine, an upgrade at each too")
     group.addoption("--machine", action="store_true", help="also paste blocks of the pages on a machine that systemd "
                     "started, and stop an upgrade there: some minutes")
+    group.addoption("--bare", action="store_true", help="also call the README's two commands on a Debian that has "
+                    "nothing: a quarter of an hour")
     group.addoption("--file-systems", metavar="NAMES", default="ext4", help="those whose power is cut: of ext4, xfs "
                     "and btrfs")
