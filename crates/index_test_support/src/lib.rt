@@ -1,8 +1,9 @@
 //! What crates of tests share: readers and writers that give and take few bytes at a time, end early, or fail; and
-//! texts of messages.
+//! texts of messages and pages.
 #![tactic(auto)]
 
 mod messages;
+mod pages;
 
 use std::io;
 use std::io::{Error, ErrorKind, Read, Write};

@@ -26,7 +26,7 @@ macro_rules! post {
 /// A reply with a status, header lines, and a body of this length.
 #[macro_export]
 macro_rules! reply {
-    ($status:literal, [$($line:literal)*], $length:literal, $body:literal) => {
+    ($status:literal, [$($line:literal)*], $length:literal, $($body:literal)*) => {
         concat!(
             "HTTP/1.1 ",
             $status,
@@ -35,7 +35,7 @@ macro_rules! reply {
             "Content-Length: ",
             $length,
             "\r\nConnection: close\r\n\r\n",
-            $body
+            $($body,)*
         )
     };
 }

@@ -16,7 +16,7 @@ use index_desk::Desk;
 use index_io::{Failed, Input, Output};
 use index_message::Site;
 use index_rules::{Books, Fault};
-use index_test_support::{json_reply, look, post, reply};
+use index_test_support::{json_reply, look, post, project_json, reply};
 use std::alloc::AllocGlobal;
 use std::process::Abort;
 use std::slice;
@@ -187,12 +187,9 @@ const EXAMPLES: &[Exchange] = &[
     ),
     (
         look!("GET /simple/frob/" "Accept: application/vnd.pypi.simple.v1+json"),
-        reply!(
-            "200 OK",
-            ["Content-Type: application/vnd.pypi.simple.v1+json"],
-            "236",
-            r#"{"files":[{"filename":"frob-1.0.tar.gz","hashes":{"sha256":"ba7816bf8f01cfea414140de5dae2223b00361a396177a9cb410ff61f20015ad"},"size":3,"url":"/files/frob/frob-1.0.tar.gz"}],"meta":{"api-version":"1.1"},"name":"frob","versions":["1.0"]}"#
-        ),
+        project_json!(["236"] r#"{"filename":"frob-1.0.tar.gz","hashes":{"sha256":"ba7816bf8f01cfea414140de5dae2223b00361a396177a9cb410ff61f20015ad"},"size":3,"url":"/files/frob/frob-1.0.tar.gz"}"#,
+                "frob",
+                r#""1.0""#),
     ),
     (
         look!("GET /names/FROB"),

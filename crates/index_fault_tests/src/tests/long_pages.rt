@@ -9,6 +9,7 @@ use index_desk::Desk;
 use index_http::IoEnd;
 use index_message::Site;
 use index_rules::{Books, Fault};
+use index_test_support::{names_front, reply};
 use std::alloc::AllocGlobal;
 use std::process::Abort;
 
@@ -79,29 +80,19 @@ fn assert_is_cut(rt: &impl Abort, told: &[u8], ended: Result<(), IoEnd>, head: &
     assert!(rt; ended == Err(IoEnd::Cut(told.len() as u64)));
 }
 
-/// A front of the reply with the long page: its head, and up to its rows or further. The page has 164 bytes beside its
-/// rows, of 269 bytes each beside two numbers of one to five digits.
-macro_rules! front_of_long_page {
-    ($($more:literal)*) => {
-        concat!(
-            "HTTP/1.1 200 OK\r\nContent-Type: text/html\r\nContent-Length: 4441944\r\nConnection: close\r\n\r\n",
-            $($more,)*
-        )
-    };
-}
-
-pub(super) const HEAD_OF_LONG_PAGE: &str = front_of_long_page!();
-
-const WITHOUT_ROWS: &str = front_of_long_page!(
-    "<!DOCTYPE html>\n<html>\n<head>\n<meta charset=\"utf-8\">\n"
-    "<meta name=\"pypi:repository-version\" content=\"1.0\">\n"
-    "<title>Simple index</title>\n</head>\n<body>\n"
+/// The head of the reply with the long page. The page has 164 bytes beside its rows, of 269 bytes each beside two numbers
+/// of one to five digits.
+pub(super) const HEAD_OF_LONG_PAGE: &str = reply!(
+    "200 OK",
+    ["Content-Type: text/html"],
+    "4441944",
+    ""
 );
 
-const WITH_A_ROW: &str = front_of_long_page!(
-    "<!DOCTYPE html>\n<html>\n<head>\n<meta charset=\"utf-8\">\n"
-    "<meta name=\"pypi:repository-version\" content=\"1.0\">\n"
-    "<title>Simple index</title>\n</head>\n<body>\n"
+const WITHOUT_ROWS: &str = names_front!(["4441944"]);
+
+const WITH_A_ROW: &str = names_front!(
+    ["4441944"]
     "<a href=\"/simple/aaaaaaaaaabbbbbbbbbbccccccccccddddddddddeeeeeeeeeeffffffffffgggggggggghhhhhhhhhhiiiiiiiiiijjjjjjjjjjkkkkkkkkkkllllllllll0/\">aaaaaaaaaabbbbbbbbbbccccccccccddddddddddeeeeeeeeeeffffffffffgggggggggghhhhhhhhhhiiiiiiiiiijjjjjjjjjjkkkkkkkkkkllllllllll0</a><br>\n"
 );
 

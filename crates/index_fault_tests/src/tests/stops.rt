@@ -12,7 +12,7 @@ use index_http::IoEnd;
 use index_message::Site;
 use index_rules::OpenFault;
 use index_tables::{SqlBooks, Unopened};
-use index_test_support::{json_reply, reply};
+use index_test_support::{json_reply, names_json, project_json, reply};
 use sqlite::{Alter, Connection, Files};
 use std::alloc::AllocGlobal;
 use std::process::Abort;
@@ -210,21 +210,13 @@ fn stop_each(
 const LOOKS: &[[&str; 2]] = &[
     [
         "GET /simple/ HTTP/1.1\r\nAccept: application/vnd.pypi.simple.v1+json\r\n\r\n",
-        reply!(
-            "200 OK",
-            ["Content-Type: application/vnd.pypi.simple.v1+json"],
-            "59",
-            r#"{"meta":{"api-version":"1.1"},"projects":[{"name":"frob"}]}"#
-        ),
+        names_json!(["59"] r#"{"name":"frob"}"#),
     ],
     [
         "GET /simple/frob/ HTTP/1.1\r\nAccept: application/vnd.pypi.simple.v1+json\r\n\r\n",
-        reply!(
-            "200 OK",
-            ["Content-Type: application/vnd.pypi.simple.v1+json"],
-            "236",
-            r#"{"files":[{"filename":"frob-1.0.tar.gz","hashes":{"sha256":"ba7816bf8f01cfea414140de5dae2223b00361a396177a9cb410ff61f20015ad"},"size":3,"url":"/files/frob/frob-1.0.tar.gz"}],"meta":{"api-version":"1.1"},"name":"frob","versions":["1.0"]}"#
-        ),
+        project_json!(["236"] r#"{"filename":"frob-1.0.tar.gz","hashes":{"sha256":"ba7816bf8f01cfea414140de5dae2223b00361a396177a9cb410ff61f20015ad"},"size":3,"url":"/files/frob/frob-1.0.tar.gz"}"#,
+                "frob",
+                r#""1.0""#),
     ],
     [
         "GET /files/frob/frob-1.0.tar.gz HTTP/1.1\r\n\r\n",

@@ -6,6 +6,7 @@ use crate::tests::{ACCEPTED, CLAIM, assert_answers, desk_with_users, new_books};
 use index_desk::Desk;
 use index_message::Site;
 use index_rules::{Books, Fault};
+use index_test_support::{project_front, reply};
 use std::alloc::AllocGlobal;
 use std::process::Abort;
 
@@ -42,24 +43,11 @@ fn books_with_files<B: Books + Drop>(rt: &(impl Abort + AllocGlobal), books: B) 
     desk.into_books()
 }
 
-/// A front of the reply with the page: its head, and up to its rows. The page has 190 bytes beside its 1,400 rows, of
-/// 3,232 bytes each: 3,072 of them are the quotation marks, each in six bytes.
-macro_rules! front_of_page {
-    ($($more:literal)*) => {
-        concat!(
-            "HTTP/1.1 200 OK\r\nContent-Type: text/html\r\nContent-Length: 4524990\r\nConnection: close\r\n\r\n",
-            $($more,)*
-        )
-    };
-}
+/// The head of the reply with the page. The page has 190 bytes beside its 1,400 rows, of 3,232 bytes each: 3,072 of
+/// them are the quotation marks, each in six bytes.
+const HEAD: &str = reply!("200 OK", ["Content-Type: text/html"], "4524990", "");
 
-const HEAD: &str = front_of_page!();
-
-const WITHOUT_ROWS: &str = front_of_page!(
-    "<!DOCTYPE html>\n<html>\n<head>\n<meta charset=\"utf-8\">\n"
-    "<meta name=\"pypi:repository-version\" content=\"1.0\">\n"
-    "<title>Links for frob</title>\n</head>\n<body>\n<h1>Links for frob</h1>\n"
-);
+const WITHOUT_ROWS: &str = project_front!(["4524990"]);
 
 /// The front of the reply with the first of its rows.
 fn with_a_row(rt: &(impl Abort + AllocGlobal)) -> String {

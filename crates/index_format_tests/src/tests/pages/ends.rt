@@ -4,12 +4,15 @@ use index_io::Output;
 use index_names::NormalName;
 use index_pages::{PageEnd, PageText, ProjectPage, Served};
 use index_rules::{FileRow, Taker};
-use index_test_support::ShortWriter;
+use index_test_support::{ShortWriter, project_json};
 use std::alloc::AllocGlobal;
 use std::process::Abort;
 
-const PAGE: &str =
-    r#"{"files":[{"filename":"frob-1.0.tar.gz","hashes":{"sha256":"ba7816bf8f01cfea414140de5dae2223b00361a396177a9cb410ff61f20015ad"},"size":3,"url":"/files/frob/frob-1.0.tar.gz"}],"meta":{"api-version":"1.1"},"name":"frob","versions":["1.0"]}"#;
+const PAGE: &str = project_json!(
+    r#"{"filename":"frob-1.0.tar.gz","hashes":{"sha256":"ba7816bf8f01cfea414140de5dae2223b00361a396177a9cb410ff61f20015ad"},"size":3,"url":"/files/frob/frob-1.0.tar.gz"}"#,
+    "frob",
+    r#""1.0""#
+);
 
 /// How many of its bytes stand before the bracket behind the files.
 const FIRST_ROW: usize = 172;

@@ -2,37 +2,18 @@
 use super::{assert_names, held, name, text};
 use index_pages::Served;
 use index_rules::{NameRecord, NameRow, Project};
+use index_test_support::{names_json, names_page};
 
-const NO_NAMES: &str = r#"<!DOCTYPE html>
-<html>
-<head>
-<meta charset="utf-8">
-<meta name="pypi:repository-version" content="1.0">
-<title>Simple index</title>
-</head>
-<body>
-</body>
-</html>
-"#;
+const NO_NAMES: &str = names_page!();
 
-const NAMES: &str = r#"<!DOCTYPE html>
-<html>
-<head>
-<meta charset="utf-8">
-<meta name="pypi:repository-version" content="1.0">
-<title>Simple index</title>
-</head>
-<body>
-<a href="/simple/frob-nest/">Frob._-Nest</a><br>
-<a href="/simple/spamspamspam/">spamspamspam</a><br>
-</body>
-</html>
-"#;
+const NAMES: &str = names_page!(
+    r#"<a href="/simple/frob-nest/">Frob._-Nest</a><br>"#
+    r#"<a href="/simple/spamspamspam/">spamspamspam</a><br>"#
+);
 
-const NO_NAMES_IN_JSON: &str = r#"{"meta":{"api-version":"1.1"},"projects":[]}"#;
+const NO_NAMES_IN_JSON: &str = names_json!("");
 
-const NAMES_IN_JSON: &str =
-    r#"{"meta":{"api-version":"1.1"},"projects":[{"name":"Frob._-Nest"},{"name":"spamspamspam"}]}"#;
+const NAMES_IN_JSON: &str = names_json!(r#"{"name":"Frob._-Nest"},{"name":"spamspamspam"}"#);
 
 #[test]
 fn no_names(rt: HostRuntime) {
@@ -44,8 +25,7 @@ fn no_names(rt: HostRuntime) {
 }
 
 /// The example of PEP 691, "Project List", with the version of this index.
-const EXAMPLE: &str =
-    r#"{"meta":{"api-version":"1.1"},"projects":[{"name":"Frob"},{"name":"spamspamspam"}]}"#;
+const EXAMPLE: &str = names_json!(r#"{"name":"Frob"},{"name":"spamspamspam"}"#);
 
 #[test]
 fn example_names(rt: HostRuntime) {
@@ -72,21 +52,9 @@ fn some_names(rt: HostRuntime) {
     assert_names(&rt, &rows, Served::Json, NAMES_IN_JSON);
 }
 
-const ESCAPED_NAME: &str = r#"<!DOCTYPE html>
-<html>
-<head>
-<meta charset="utf-8">
-<meta name="pypi:repository-version" content="1.0">
-<title>Simple index</title>
-</head>
-<body>
-<a href="/simple/frob/">&lt;&amp;&gt;&quot;'\é</a><br>
-</body>
-</html>
-"#;
+const ESCAPED_NAME: &str = names_page!(r#"<a href="/simple/frob/">&lt;&amp;&gt;&quot;'\é</a><br>"#);
 
-const ESCAPED_NAME_IN_JSON: &str =
-    r#"{"meta":{"api-version":"1.1"},"projects":[{"name":"<&>\"'\\é"}]}"#;
+const ESCAPED_NAME_IN_JSON: &str = names_json!(r#"{"name":"<&>\"'\\é"}"#);
 
 /// A spelling with each byte that one of the two pages escapes. No claim accepts one.
 #[test]

@@ -2,21 +2,9 @@
 use super::{assert_files, file_row, name, text};
 use index_pages::Served;
 use index_rules::FileRow;
+use index_test_support::{project_json, project_page};
 use std::alloc::AllocGlobal;
 use std::process::Abort;
-
-/// An HTML page of `frob` with these lines.
-macro_rules! page {
-    ($($line:literal)*) => {
-        concat!(
-            "<!DOCTYPE html>\n<html>\n<head>\n<meta charset=\"utf-8\">\n",
-            "<meta name=\"pypi:repository-version\" content=\"1.0\">\n",
-            "<title>Links for frob</title>\n</head>\n<body>\n<h1>Links for frob</h1>\n",
-            $($line, "\n",)*
-            "</body>\n</html>\n"
-        )
-    };
-}
 
 /// The page of `frob` with these files is this text.
 fn assert_page(rt: &(impl Abort + AllocGlobal), rows: &[FileRow], served: Served, expected: &str) {
@@ -24,10 +12,9 @@ fn assert_page(rt: &(impl Abort + AllocGlobal), rows: &[FileRow], served: Served
     assert_files(rt, &frob, rows, served, expected);
 }
 
-const NO_FILES: &str = page!();
+const NO_FILES: &str = project_page!();
 
-const NO_FILES_IN_JSON: &str =
-    r#"{"files":[],"meta":{"api-version":"1.1"},"name":"frob","versions":[]}"#;
+const NO_FILES_IN_JSON: &str = project_json!("", "frob", "");
 
 #[test]
 fn no_files(rt: HostRuntime) {
@@ -36,12 +23,15 @@ fn no_files(rt: HostRuntime) {
     assert_page(&rt, &[], Served::Json, NO_FILES_IN_JSON);
 }
 
-const ONE_FILE: &str = page!(
+const ONE_FILE: &str = project_page!(
     r#"<a href="/files/frob/frob-1.0.tar.gz#sha256=ba7816bf8f01cfea414140de5dae2223b00361a396177a9cb410ff61f20015ad">frob-1.0.tar.gz</a><br>"#
 );
 
-const ONE_FILE_IN_JSON: &str =
-    r#"{"files":[{"filename":"frob-1.0.tar.gz","hashes":{"sha256":"ba7816bf8f01cfea414140de5dae2223b00361a396177a9cb410ff61f20015ad"},"size":3,"url":"/files/frob/frob-1.0.tar.gz"}],"meta":{"api-version":"1.1"},"name":"frob","versions":["1.0"]}"#;
+const ONE_FILE_IN_JSON: &str = project_json!(
+    r#"{"filename":"frob-1.0.tar.gz","hashes":{"sha256":"ba7816bf8f01cfea414140de5dae2223b00361a396177a9cb410ff61f20015ad"},"size":3,"url":"/files/frob/frob-1.0.tar.gz"}"#,
+    "frob",
+    r#""1.0""#
+);
 
 #[test]
 fn one_file(rt: HostRuntime) {
@@ -52,12 +42,18 @@ fn one_file(rt: HostRuntime) {
 }
 
 /// Two files of one release and one of another, whose name has another letter case.
-const VERSIONS: &str =
-    r#"{"files":[{"filename":"frob-1.0-py3-none-any.whl","hashes":{"sha256":"ba7816bf8f01cfea414140de5dae2223b00361a396177a9cb410ff61f20015ad"},"size":3,"url":"/files/frob/frob-1.0-py3-none-any.whl"},{"filename":"frob-1.0.tar.gz","hashes":{"sha256":"ba7816bf8f01cfea414140de5dae2223b00361a396177a9cb410ff61f20015ad"},"size":3,"url":"/files/frob/frob-1.0.tar.gz"},{"filename":"frob-1.0RC1.tar.gz","hashes":{"sha256":"ba7816bf8f01cfea414140de5dae2223b00361a396177a9cb410ff61f20015ad"},"size":3,"url":"/files/frob/frob-1.0RC1.tar.gz"}],"meta":{"api-version":"1.1"},"name":"frob","versions":["1.0","1.0rc1"]}"#;
+const VERSIONS: &str = project_json!(
+    r#"{"filename":"frob-1.0-py3-none-any.whl","hashes":{"sha256":"ba7816bf8f01cfea414140de5dae2223b00361a396177a9cb410ff61f20015ad"},"size":3,"url":"/files/frob/frob-1.0-py3-none-any.whl"},{"filename":"frob-1.0.tar.gz","hashes":{"sha256":"ba7816bf8f01cfea414140de5dae2223b00361a396177a9cb410ff61f20015ad"},"size":3,"url":"/files/frob/frob-1.0.tar.gz"},{"filename":"frob-1.0RC1.tar.gz","hashes":{"sha256":"ba7816bf8f01cfea414140de5dae2223b00361a396177a9cb410ff61f20015ad"},"size":3,"url":"/files/frob/frob-1.0RC1.tar.gz"}"#,
+    "frob",
+    r#""1.0","1.0rc1""#
+);
 
 /// The versions are each release once and in byte order, whatever the order of the files.
-const VERSIONS_IN_ORDER: &str =
-    r#"{"files":[{"filename":"frob-9.tar.gz","hashes":{"sha256":"ba7816bf8f01cfea414140de5dae2223b00361a396177a9cb410ff61f20015ad"},"size":3,"url":"/files/frob/frob-9.tar.gz"},{"filename":"frob-10.tar.gz","hashes":{"sha256":"ba7816bf8f01cfea414140de5dae2223b00361a396177a9cb410ff61f20015ad"},"size":3,"url":"/files/frob/frob-10.tar.gz"},{"filename":"frob-9-py3-none-any.whl","hashes":{"sha256":"ba7816bf8f01cfea414140de5dae2223b00361a396177a9cb410ff61f20015ad"},"size":3,"url":"/files/frob/frob-9-py3-none-any.whl"}],"meta":{"api-version":"1.1"},"name":"frob","versions":["10","9"]}"#;
+const VERSIONS_IN_ORDER: &str = project_json!(
+    r#"{"filename":"frob-9.tar.gz","hashes":{"sha256":"ba7816bf8f01cfea414140de5dae2223b00361a396177a9cb410ff61f20015ad"},"size":3,"url":"/files/frob/frob-9.tar.gz"},{"filename":"frob-10.tar.gz","hashes":{"sha256":"ba7816bf8f01cfea414140de5dae2223b00361a396177a9cb410ff61f20015ad"},"size":3,"url":"/files/frob/frob-10.tar.gz"},{"filename":"frob-9-py3-none-any.whl","hashes":{"sha256":"ba7816bf8f01cfea414140de5dae2223b00361a396177a9cb410ff61f20015ad"},"size":3,"url":"/files/frob/frob-9-py3-none-any.whl"}"#,
+    "frob",
+    r#""10","9""#
+);
 
 #[test]
 fn versions(rt: HostRuntime) {
@@ -83,21 +79,27 @@ fn yanked_rows(rt: &(impl Abort + AllocGlobal), reason: &str) -> [FileRow; 2] {
     ]
 }
 
-const YANKED: &str = page!(
+const YANKED: &str = project_page!(
     r#"<a href="/files/frob/frob-1.0-py3-none-any.whl#sha256=ba7816bf8f01cfea414140de5dae2223b00361a396177a9cb410ff61f20015ad" data-yanked="&lt;3 &amp; &quot;x&quot;">frob-1.0-py3-none-any.whl</a><br>"#
     r#"<a href="/files/frob/frob-1.0.tar.gz#sha256=ba7816bf8f01cfea414140de5dae2223b00361a396177a9cb410ff61f20015ad" data-yanked="&lt;3 &amp; &quot;x&quot;">frob-1.0.tar.gz</a><br>"#
 );
 
-const YANKED_IN_JSON: &str =
-    r#"{"files":[{"filename":"frob-1.0-py3-none-any.whl","hashes":{"sha256":"ba7816bf8f01cfea414140de5dae2223b00361a396177a9cb410ff61f20015ad"},"size":3,"url":"/files/frob/frob-1.0-py3-none-any.whl","yanked":"<3 & \"x\""},{"filename":"frob-1.0.tar.gz","hashes":{"sha256":"ba7816bf8f01cfea414140de5dae2223b00361a396177a9cb410ff61f20015ad"},"size":3,"url":"/files/frob/frob-1.0.tar.gz","yanked":"<3 & \"x\""}],"meta":{"api-version":"1.1"},"name":"frob","versions":["1.0"]}"#;
+const YANKED_IN_JSON: &str = project_json!(
+    r#"{"filename":"frob-1.0-py3-none-any.whl","hashes":{"sha256":"ba7816bf8f01cfea414140de5dae2223b00361a396177a9cb410ff61f20015ad"},"size":3,"url":"/files/frob/frob-1.0-py3-none-any.whl","yanked":"<3 & \"x\""},{"filename":"frob-1.0.tar.gz","hashes":{"sha256":"ba7816bf8f01cfea414140de5dae2223b00361a396177a9cb410ff61f20015ad"},"size":3,"url":"/files/frob/frob-1.0.tar.gz","yanked":"<3 & \"x\""}"#,
+    "frob",
+    r#""1.0""#
+);
 
-const YANKED_FOR_NO_REASON: &str = page!(
+const YANKED_FOR_NO_REASON: &str = project_page!(
     r#"<a href="/files/frob/frob-1.0-py3-none-any.whl#sha256=ba7816bf8f01cfea414140de5dae2223b00361a396177a9cb410ff61f20015ad" data-yanked="">frob-1.0-py3-none-any.whl</a><br>"#
     r#"<a href="/files/frob/frob-1.0.tar.gz#sha256=ba7816bf8f01cfea414140de5dae2223b00361a396177a9cb410ff61f20015ad" data-yanked="">frob-1.0.tar.gz</a><br>"#
 );
 
-const YANKED_FOR_NO_REASON_IN_JSON: &str =
-    r#"{"files":[{"filename":"frob-1.0-py3-none-any.whl","hashes":{"sha256":"ba7816bf8f01cfea414140de5dae2223b00361a396177a9cb410ff61f20015ad"},"size":3,"url":"/files/frob/frob-1.0-py3-none-any.whl","yanked":true},{"filename":"frob-1.0.tar.gz","hashes":{"sha256":"ba7816bf8f01cfea414140de5dae2223b00361a396177a9cb410ff61f20015ad"},"size":3,"url":"/files/frob/frob-1.0.tar.gz","yanked":true}],"meta":{"api-version":"1.1"},"name":"frob","versions":["1.0"]}"#;
+const YANKED_FOR_NO_REASON_IN_JSON: &str = project_json!(
+    r#"{"filename":"frob-1.0-py3-none-any.whl","hashes":{"sha256":"ba7816bf8f01cfea414140de5dae2223b00361a396177a9cb410ff61f20015ad"},"size":3,"url":"/files/frob/frob-1.0-py3-none-any.whl","yanked":true},{"filename":"frob-1.0.tar.gz","hashes":{"sha256":"ba7816bf8f01cfea414140de5dae2223b00361a396177a9cb410ff61f20015ad"},"size":3,"url":"/files/frob/frob-1.0.tar.gz","yanked":true}"#,
+    "frob",
+    r#""1.0""#
+);
 
 #[test]
 fn yanked_files(rt: HostRuntime) {
@@ -110,14 +112,17 @@ fn yanked_files(rt: HostRuntime) {
 }
 
 /// The Python versions of the examples of PEP 503 and PEP 440, and each byte that one of the two pages escapes.
-const REQUIRES: &str = page!(
+const REQUIRES: &str = project_page!(
     r#"<a href="/files/frob/frob-1.tar.gz#sha256=ba7816bf8f01cfea414140de5dae2223b00361a396177a9cb410ff61f20015ad" data-requires-python="&gt;=3">frob-1.tar.gz</a><br>"#
     r#"<a href="/files/frob/frob-2.tar.gz#sha256=ba7816bf8f01cfea414140de5dae2223b00361a396177a9cb410ff61f20015ad" data-requires-python="~= 0.9, &gt;= 1.0, != 1.3.4.*, &lt; 2.0">frob-2.tar.gz</a><br>"#
     r#"<a href="/files/frob/frob-3.tar.gz#sha256=ba7816bf8f01cfea414140de5dae2223b00361a396177a9cb410ff61f20015ad" data-requires-python="&lt;&amp;&gt;&quot;'\/é&amp;lt;" data-yanked="broken">frob-3.tar.gz</a><br>"#
 );
 
-const REQUIRES_IN_JSON: &str =
-    r#"{"files":[{"filename":"frob-1.tar.gz","hashes":{"sha256":"ba7816bf8f01cfea414140de5dae2223b00361a396177a9cb410ff61f20015ad"},"requires-python":">=3","size":3,"url":"/files/frob/frob-1.tar.gz"},{"filename":"frob-2.tar.gz","hashes":{"sha256":"ba7816bf8f01cfea414140de5dae2223b00361a396177a9cb410ff61f20015ad"},"requires-python":"~= 0.9, >= 1.0, != 1.3.4.*, < 2.0","size":3,"url":"/files/frob/frob-2.tar.gz"},{"filename":"frob-3.tar.gz","hashes":{"sha256":"ba7816bf8f01cfea414140de5dae2223b00361a396177a9cb410ff61f20015ad"},"requires-python":"<&>\"'\\/é&lt;","size":3,"url":"/files/frob/frob-3.tar.gz","yanked":"broken"}],"meta":{"api-version":"1.1"},"name":"frob","versions":["1","2","3"]}"#;
+const REQUIRES_IN_JSON: &str = project_json!(
+    r#"{"filename":"frob-1.tar.gz","hashes":{"sha256":"ba7816bf8f01cfea414140de5dae2223b00361a396177a9cb410ff61f20015ad"},"requires-python":">=3","size":3,"url":"/files/frob/frob-1.tar.gz"},{"filename":"frob-2.tar.gz","hashes":{"sha256":"ba7816bf8f01cfea414140de5dae2223b00361a396177a9cb410ff61f20015ad"},"requires-python":"~= 0.9, >= 1.0, != 1.3.4.*, < 2.0","size":3,"url":"/files/frob/frob-2.tar.gz"},{"filename":"frob-3.tar.gz","hashes":{"sha256":"ba7816bf8f01cfea414140de5dae2223b00361a396177a9cb410ff61f20015ad"},"requires-python":"<&>\"'\\/é&lt;","size":3,"url":"/files/frob/frob-3.tar.gz","yanked":"broken"}"#,
+    "frob",
+    r#""1","2","3""#
+);
 
 #[test]
 fn requires_python(rt: HostRuntime) {
@@ -141,8 +146,11 @@ fn requires_python(rt: HostRuntime) {
 }
 
 /// The example of PEP 691, "Project Detail", with the addresses and digests of this index.
-const HOLYGRAIL: &str =
-    r#"{"files":[{"filename":"holygrail-1.0-py3-none-any.whl","hashes":{"sha256":"ba7816bf8f01cfea414140de5dae2223b00361a396177a9cb410ff61f20015ad"},"requires-python":">=3.7","size":3,"url":"/files/holygrail/holygrail-1.0-py3-none-any.whl"},{"filename":"holygrail-1.0.tar.gz","hashes":{"sha256":"ba7816bf8f01cfea414140de5dae2223b00361a396177a9cb410ff61f20015ad"},"requires-python":">=3.7","size":3,"url":"/files/holygrail/holygrail-1.0.tar.gz","yanked":"Had a vulnerability"}],"meta":{"api-version":"1.1"},"name":"holygrail","versions":["1.0"]}"#;
+const HOLYGRAIL: &str = project_json!(
+    r#"{"filename":"holygrail-1.0-py3-none-any.whl","hashes":{"sha256":"ba7816bf8f01cfea414140de5dae2223b00361a396177a9cb410ff61f20015ad"},"requires-python":">=3.7","size":3,"url":"/files/holygrail/holygrail-1.0-py3-none-any.whl"},{"filename":"holygrail-1.0.tar.gz","hashes":{"sha256":"ba7816bf8f01cfea414140de5dae2223b00361a396177a9cb410ff61f20015ad"},"requires-python":">=3.7","size":3,"url":"/files/holygrail/holygrail-1.0.tar.gz","yanked":"Had a vulnerability"}"#,
+    "holygrail",
+    r#""1.0""#
+);
 
 #[test]
 fn example_of_a_project(rt: HostRuntime) {

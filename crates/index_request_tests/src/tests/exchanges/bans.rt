@@ -2,7 +2,7 @@
 use super::{
     ACCEPTED, ALREADY, BYTES, CHARGED, FILE, FROB, GET, NO_FILE, PUT, USERS, assert_exchanges,
 };
-use index_test_support::{json_reply, look, post, reply};
+use index_test_support::{json_reply, look, post, project_json};
 
 const PAGE: &str = look!("GET /simple/frob/" "Accept: application/vnd.pypi.simple.v1+json");
 
@@ -11,12 +11,9 @@ const ASKED: &[[&str; 2]] = &[
     [GET, BYTES],
     [
         PAGE,
-        reply!(
-            "200 OK",
-            ["Content-Type: application/vnd.pypi.simple.v1+json"],
-            "236",
-            r#"{"files":[{"filename":"frob-1.0.tar.gz","hashes":{"sha256":"ba7816bf8f01cfea414140de5dae2223b00361a396177a9cb410ff61f20015ad"},"size":3,"url":"/files/frob/frob-1.0.tar.gz"}],"meta":{"api-version":"1.1"},"name":"frob","versions":["1.0"]}"#
-        ),
+        project_json!(["236"] r#"{"filename":"frob-1.0.tar.gz","hashes":{"sha256":"ba7816bf8f01cfea414140de5dae2223b00361a396177a9cb410ff61f20015ad"},"size":3,"url":"/files/frob/frob-1.0.tar.gz"}"#,
+                "frob",
+                r#""1.0""#),
     ],
     CHARGED,
 ];
@@ -41,12 +38,7 @@ const BAN: &str = post!(
 
 const NO_FILE_HEAD: &str = json_reply!("404 Not Found", "46", "");
 
-const NO_FILES: &str = reply!(
-    "200 OK",
-    ["Content-Type: application/vnd.pypi.simple.v1+json"],
-    "69",
-    r#"{"files":[],"meta":{"api-version":"1.1"},"name":"frob","versions":[]}"#
-);
+const NO_FILES: &str = project_json!(["69"] "", "frob", "");
 
 const UNCHARGED: &str = json_reply!(
     "200 OK",

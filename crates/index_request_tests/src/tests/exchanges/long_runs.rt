@@ -7,7 +7,7 @@ use crate::tests::{Story, assert_story};
 use index_caching::CachesAnswers;
 use index_desk::Desk;
 use index_message::Site;
-use index_test_support::{look, reply};
+use index_test_support::{look, names_json, project_json};
 use std::alloc::AllocGlobal;
 use std::process::Abort;
 
@@ -33,28 +33,16 @@ const ROUND: &[[&str; 2]] = &[
 
 const NAMES: &str = look!("GET /simple/" "Accept: application/vnd.pypi.simple.v1+json");
 
-const NAMES_IN_JSON: &str = reply!(
-    "200 OK",
-    ["Content-Type: application/vnd.pypi.simple.v1+json"],
-    "59",
-    r#"{"meta":{"api-version":"1.1"},"projects":[{"name":"frob"}]}"#
-);
+const NAMES_IN_JSON: &str = names_json!(["59"] r#"{"name":"frob"}"#);
 
 const PROJECT: &str = look!("GET /simple/frob/" "Accept: application/vnd.pypi.simple.v1+json");
 
-const PROJECT_WITH_FILE: &str = reply!(
-    "200 OK",
-    ["Content-Type: application/vnd.pypi.simple.v1+json"],
-    "236",
-    r#"{"files":[{"filename":"frob-1.0.tar.gz","hashes":{"sha256":"ba7816bf8f01cfea414140de5dae2223b00361a396177a9cb410ff61f20015ad"},"size":3,"url":"/files/frob/frob-1.0.tar.gz"}],"meta":{"api-version":"1.1"},"name":"frob","versions":["1.0"]}"#
-);
+const PROJECT_WITH_FILE: &str =
+    project_json!(["236"] r#"{"filename":"frob-1.0.tar.gz","hashes":{"sha256":"ba7816bf8f01cfea414140de5dae2223b00361a396177a9cb410ff61f20015ad"},"size":3,"url":"/files/frob/frob-1.0.tar.gz"}"#,
+        "frob",
+        r#""1.0""#);
 
-const PROJECT_WITHOUT_FILES: &str = reply!(
-    "200 OK",
-    ["Content-Type: application/vnd.pypi.simple.v1+json"],
-    "69",
-    r#"{"files":[],"meta":{"api-version":"1.1"},"name":"frob","versions":[]}"#
-);
+const PROJECT_WITHOUT_FILES: &str = project_json!(["69"] "", "frob", "");
 
 /// A hundred times, each answered by the rules, however many came before.
 #[derive(Clone, Copy)]

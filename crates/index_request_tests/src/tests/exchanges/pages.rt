@@ -1,6 +1,6 @@
 //! Pages, and redirects to them.
 use super::{FILE, FROB, NO_PROJECT, USERS, assert_exchanges};
-use index_test_support::{json_reply, look, reply};
+use index_test_support::{json_reply, look, names_json, names_page, project_json, reply};
 
 const ROOT: &str = look!("GET /simple/");
 
@@ -8,14 +8,8 @@ const ROOT_IN_JSON: &str = look!("GET /simple/" "Accept: application/vnd.pypi.si
 
 /// The page of no names, of 164 bytes, and in JSON of 44.
 const NO_NAMES: &[[&str; 2]] = &[
-    [
-        ROOT,
-        "HTTP/1.1 200 OK\r\nContent-Type: text/html\r\nContent-Length: 164\r\nConnection: close\r\n\r\n<!DOCTYPE html>\n<html>\n<head>\n<meta charset=\"utf-8\">\n<meta name=\"pypi:repository-version\" content=\"1.0\">\n<title>Simple index</title>\n</head>\n<body>\n</body>\n</html>\n",
-    ],
-    [
-        ROOT_IN_JSON,
-        "HTTP/1.1 200 OK\r\nContent-Type: application/vnd.pypi.simple.v1+json\r\nContent-Length: 44\r\nConnection: close\r\n\r\n{\"meta\":{\"api-version\":\"1.1\"},\"projects\":[]}",
-    ],
+    [ROOT, names_page!(["164"])],
+    [ROOT_IN_JSON, names_json!(["44"] "")],
     [
         look!("HEAD /simple/"),
         "HTTP/1.1 200 OK\r\nContent-Type: text/html\r\nContent-Length: 164\r\nConnection: close\r\n\r\n",
@@ -34,8 +28,7 @@ const NAMES: &[[&str; 2]] = &[[ROOT_IN_JSON, NAMES_IN_JSON], [TWO_FIELDS, NAMES_
 const TWO_FIELDS: &str =
     look!("GET /simple/" "Accept: text/html;q=0.5" "Accept: application/vnd.pypi.simple.v1+json");
 
-const NAMES_IN_JSON: &str =
-    "HTTP/1.1 200 OK\r\nContent-Type: application/vnd.pypi.simple.v1+json\r\nContent-Length: 59\r\nConnection: close\r\n\r\n{\"meta\":{\"api-version\":\"1.1\"},\"projects\":[{\"name\":\"frob\"}]}";
+const NAMES_IN_JSON: &str = names_json!(["59"] r#"{"name":"frob"}"#);
 
 #[test]
 fn a_page_of_names(rt: HostRuntime) {
@@ -46,12 +39,9 @@ fn a_page_of_names(rt: HostRuntime) {
 const PROJECT: &[[&str; 2]] = &[
     [
         look!("GET /simple/frob/" "Accept: application/vnd.pypi.simple.v1+json"),
-        reply!(
-            "200 OK",
-            ["Content-Type: application/vnd.pypi.simple.v1+json"],
-            "236",
-            r#"{"files":[{"filename":"frob-1.0.tar.gz","hashes":{"sha256":"ba7816bf8f01cfea414140de5dae2223b00361a396177a9cb410ff61f20015ad"},"size":3,"url":"/files/frob/frob-1.0.tar.gz"}],"meta":{"api-version":"1.1"},"name":"frob","versions":["1.0"]}"#
-        ),
+        project_json!(["236"] r#"{"filename":"frob-1.0.tar.gz","hashes":{"sha256":"ba7816bf8f01cfea414140de5dae2223b00361a396177a9cb410ff61f20015ad"},"size":3,"url":"/files/frob/frob-1.0.tar.gz"}"#,
+                "frob",
+                r#""1.0""#),
     ],
     [
         look!("HEAD /simple/frob/" "accept: application/vnd.pypi.simple.latest+json"),

@@ -1,6 +1,6 @@
 //! Prohibited names, as others see them.
 use super::{ACCEPTED, CREATED, FILE, FROB, NO_FILE, NO_PROJECT, PUT, USERS, assert_exchanges};
-use index_test_support::{json_reply, look, post, reply};
+use index_test_support::{json_reply, look, names_json, post, project_json};
 
 /// ann uploads a second file, the byte `a`, and yanks the release of the first.
 const SECOND_FILE: &[[&str; 2]] = &[
@@ -48,12 +48,7 @@ const STANDS_PROHIBITED: &str = json_reply!(
     r#"{"name":"frob","state":"prohibited"}"#
 );
 
-const NO_NAMES: &str = reply!(
-    "200 OK",
-    ["Content-Type: application/vnd.pypi.simple.v1+json"],
-    "44",
-    r#"{"meta":{"api-version":"1.1"},"projects":[]}"#
-);
+const NO_NAMES: &str = names_json!(["44"] "");
 
 const CLAIM_BY_BOB: &str = post!("hello", "28", r#"{"do":"claim","name":"frob"}"#);
 
@@ -92,12 +87,10 @@ const NOT_OWNER: &str = json_reply!(
 
 const PUT_BY_BOB: &str = put!("/files/frob/frob-1.0.tar.gz" "X-Index-Token: hello");
 
-const NOT_YANKED: &str = reply!(
-    "200 OK",
-    ["Content-Type: application/vnd.pypi.simple.v1+json"],
-    "236",
-    r#"{"files":[{"filename":"frob-1.0.tar.gz","hashes":{"sha256":"ba7816bf8f01cfea414140de5dae2223b00361a396177a9cb410ff61f20015ad"},"size":3,"url":"/files/frob/frob-1.0.tar.gz"}],"meta":{"api-version":"1.1"},"name":"frob","versions":["1.0"]}"#
-);
+const NOT_YANKED: &str =
+    project_json!(["236"] r#"{"filename":"frob-1.0.tar.gz","hashes":{"sha256":"ba7816bf8f01cfea414140de5dae2223b00361a396177a9cb410ff61f20015ad"},"size":3,"url":"/files/frob/frob-1.0.tar.gz"}"#,
+        "frob",
+        r#""1.0""#);
 
 #[test]
 fn a_prohibited_name_has_no_page(rt: HostRuntime) {

@@ -1,22 +1,6 @@
 //! Pages of a project whose release is yanked (PEP 592).
 use super::{ACCEPTED, ALREADY, CREATED, FILE, FROB, USERS, assert_exchanges};
-use index_test_support::{json_reply, look, post, reply};
-
-/// The page of `frob` in HTML, with a line for each file.
-macro_rules! html_page {
-    ($length:literal $($anchor:literal)*) => {
-        concat!(
-            "HTTP/1.1 200 OK\r\nContent-Type: text/html\r\nContent-Length: ",
-            $length,
-            "\r\nConnection: close\r\n\r\n",
-            "<!DOCTYPE html>\n<html>\n<head>\n<meta charset=\"utf-8\">\n",
-            "<meta name=\"pypi:repository-version\" content=\"1.0\">\n",
-            "<title>Links for frob</title>\n</head>\n<body>\n<h1>Links for frob</h1>\n",
-            $($anchor, "\n",)*
-            "</body>\n</html>\n"
-        )
-    };
-}
+use index_test_support::{json_reply, look, post, project_json, project_page};
 
 const IN_HTML: &str = look!("GET /simple/frob/");
 
@@ -35,17 +19,14 @@ const YANK: &str = post!(
     r#"{"do":"yank","name":"frob","release":"1.0","reason":"<3 & \"x\""}"#
 );
 
-const YANKED_IN_HTML: &str = html_page!(
-    "364"
+const YANKED_IN_HTML: &str = project_page!(["364"]
     r#"<a href="/files/frob/frob-1.0.tar.gz#sha256=ba7816bf8f01cfea414140de5dae2223b00361a396177a9cb410ff61f20015ad" data-yanked="&lt;3 &amp; &quot;x&quot;">frob-1.0.tar.gz</a><br>"#
 );
 
-const YANKED_IN_JSON: &str = reply!(
-    "200 OK",
-    ["Content-Type: application/vnd.pypi.simple.v1+json"],
-    "258",
-    r#"{"files":[{"filename":"frob-1.0.tar.gz","hashes":{"sha256":"ba7816bf8f01cfea414140de5dae2223b00361a396177a9cb410ff61f20015ad"},"size":3,"url":"/files/frob/frob-1.0.tar.gz","yanked":"<3 & \"x\""}],"meta":{"api-version":"1.1"},"name":"frob","versions":["1.0"]}"#
-);
+const YANKED_IN_JSON: &str =
+    project_json!(["258"] r#"{"filename":"frob-1.0.tar.gz","hashes":{"sha256":"ba7816bf8f01cfea414140de5dae2223b00361a396177a9cb410ff61f20015ad"},"size":3,"url":"/files/frob/frob-1.0.tar.gz","yanked":"<3 & \"x\""}"#,
+        "frob",
+        r#""1.0""#);
 
 /// Then again without a reason.
 const YANKED_AGAIN: &[[&str; 2]] = &[
@@ -60,17 +41,14 @@ const YANK_AGAIN: &str = post!(
     r#"{"do":"yank","name":"frob","release":"1.0","reason":""}"#
 );
 
-const YANKED_AGAIN_IN_HTML: &str = html_page!(
-    "339"
+const YANKED_AGAIN_IN_HTML: &str = project_page!(["339"]
     r#"<a href="/files/frob/frob-1.0.tar.gz#sha256=ba7816bf8f01cfea414140de5dae2223b00361a396177a9cb410ff61f20015ad" data-yanked="">frob-1.0.tar.gz</a><br>"#
 );
 
-const YANKED_AGAIN_IN_JSON: &str = reply!(
-    "200 OK",
-    ["Content-Type: application/vnd.pypi.simple.v1+json"],
-    "250",
-    r#"{"files":[{"filename":"frob-1.0.tar.gz","hashes":{"sha256":"ba7816bf8f01cfea414140de5dae2223b00361a396177a9cb410ff61f20015ad"},"size":3,"url":"/files/frob/frob-1.0.tar.gz","yanked":true}],"meta":{"api-version":"1.1"},"name":"frob","versions":["1.0"]}"#
-);
+const YANKED_AGAIN_IN_JSON: &str =
+    project_json!(["250"] r#"{"filename":"frob-1.0.tar.gz","hashes":{"sha256":"ba7816bf8f01cfea414140de5dae2223b00361a396177a9cb410ff61f20015ad"},"size":3,"url":"/files/frob/frob-1.0.tar.gz","yanked":true}"#,
+        "frob",
+        r#""1.0""#);
 
 /// A wheel of the release is yanked from the first. It is listed before the source archive.
 const WITH_WHEEL: &[[&str; 2]] = &[
@@ -81,18 +59,15 @@ const WITH_WHEEL: &[[&str; 2]] = &[
 
 const PUT_WHEEL: &str = put!("/files/frob/frob-1.0-py3-none-any.whl" "X-Index-Token: abc");
 
-const WITH_WHEEL_IN_HTML: &str = html_page!(
-    "508"
+const WITH_WHEEL_IN_HTML: &str = project_page!(["508"]
     r#"<a href="/files/frob/frob-1.0-py3-none-any.whl#sha256=ba7816bf8f01cfea414140de5dae2223b00361a396177a9cb410ff61f20015ad" data-yanked="">frob-1.0-py3-none-any.whl</a><br>"#
     r#"<a href="/files/frob/frob-1.0.tar.gz#sha256=ba7816bf8f01cfea414140de5dae2223b00361a396177a9cb410ff61f20015ad" data-yanked="">frob-1.0.tar.gz</a><br>"#
 );
 
-const WITH_WHEEL_IN_JSON: &str = reply!(
-    "200 OK",
-    ["Content-Type: application/vnd.pypi.simple.v1+json"],
-    "447",
-    r#"{"files":[{"filename":"frob-1.0-py3-none-any.whl","hashes":{"sha256":"ba7816bf8f01cfea414140de5dae2223b00361a396177a9cb410ff61f20015ad"},"size":3,"url":"/files/frob/frob-1.0-py3-none-any.whl","yanked":true},{"filename":"frob-1.0.tar.gz","hashes":{"sha256":"ba7816bf8f01cfea414140de5dae2223b00361a396177a9cb410ff61f20015ad"},"size":3,"url":"/files/frob/frob-1.0.tar.gz","yanked":true}],"meta":{"api-version":"1.1"},"name":"frob","versions":["1.0"]}"#
-);
+const WITH_WHEEL_IN_JSON: &str =
+    project_json!(["447"] r#"{"filename":"frob-1.0-py3-none-any.whl","hashes":{"sha256":"ba7816bf8f01cfea414140de5dae2223b00361a396177a9cb410ff61f20015ad"},"size":3,"url":"/files/frob/frob-1.0-py3-none-any.whl","yanked":true},{"filename":"frob-1.0.tar.gz","hashes":{"sha256":"ba7816bf8f01cfea414140de5dae2223b00361a396177a9cb410ff61f20015ad"},"size":3,"url":"/files/frob/frob-1.0.tar.gz","yanked":true}"#,
+        "frob",
+        r#""1.0""#);
 
 /// Then no release is yanked.
 const UNYANKED: &[[&str; 2]] = &[
@@ -109,18 +84,15 @@ const UNYANK: &str = post!(
     r#"{"do":"unyank","name":"frob","release":"1.0"}"#
 );
 
-const UNYANKED_IN_HTML: &str = html_page!(
-    "478"
+const UNYANKED_IN_HTML: &str = project_page!(["478"]
     r#"<a href="/files/frob/frob-1.0-py3-none-any.whl#sha256=ba7816bf8f01cfea414140de5dae2223b00361a396177a9cb410ff61f20015ad">frob-1.0-py3-none-any.whl</a><br>"#
     r#"<a href="/files/frob/frob-1.0.tar.gz#sha256=ba7816bf8f01cfea414140de5dae2223b00361a396177a9cb410ff61f20015ad">frob-1.0.tar.gz</a><br>"#
 );
 
-const UNYANKED_IN_JSON: &str = reply!(
-    "200 OK",
-    ["Content-Type: application/vnd.pypi.simple.v1+json"],
-    "419",
-    r#"{"files":[{"filename":"frob-1.0-py3-none-any.whl","hashes":{"sha256":"ba7816bf8f01cfea414140de5dae2223b00361a396177a9cb410ff61f20015ad"},"size":3,"url":"/files/frob/frob-1.0-py3-none-any.whl"},{"filename":"frob-1.0.tar.gz","hashes":{"sha256":"ba7816bf8f01cfea414140de5dae2223b00361a396177a9cb410ff61f20015ad"},"size":3,"url":"/files/frob/frob-1.0.tar.gz"}],"meta":{"api-version":"1.1"},"name":"frob","versions":["1.0"]}"#
-);
+const UNYANKED_IN_JSON: &str =
+    project_json!(["419"] r#"{"filename":"frob-1.0-py3-none-any.whl","hashes":{"sha256":"ba7816bf8f01cfea414140de5dae2223b00361a396177a9cb410ff61f20015ad"},"size":3,"url":"/files/frob/frob-1.0-py3-none-any.whl"},{"filename":"frob-1.0.tar.gz","hashes":{"sha256":"ba7816bf8f01cfea414140de5dae2223b00361a396177a9cb410ff61f20015ad"},"size":3,"url":"/files/frob/frob-1.0.tar.gz"}"#,
+        "frob",
+        r#""1.0""#);
 
 const UNYANK_OTHER: &str = post!(
     "abc",
