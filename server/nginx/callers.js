@@ -25,7 +25,10 @@ function is_named(r, text) {
     return /^[0-9a-f]{64}$/.test(text) || r.status === 200 || r.status === 201;
 }
 
+// A pipeline's password is one of some minutes: the service says as whose it was taken.
 function caller(r) {
+    const said = r.uri === '/legacy/' && r.variables.upstream_http_x_index_caller;
+    if (said) { return said; }
     const text = token(r);
     return text && is_named(r, text) ? crypto.createHash('sha256').update(text).digest('hex').slice(0, DIGITS) : '';
 }

@@ -6,7 +6,7 @@ import threading
 import time
 
 import pytest
-from support.clients.forms import form, message
+from support.clients.forms import asked, form, message
 from support.programs import program_of
 from support.unit import calls, ends, raises
 
@@ -31,16 +31,6 @@ def service(monkeypatch, answer=(201, "accepted"), at_once=4):
         threading.Thread(target=serving.serve_forever, kwargs={"poll_interval": 0.01}, daemon=True).start()
         yield serving, given
         serving.shutdown()
-
-
-def asked(serving, data):
-    with socket.create_connection(serving.server_address, timeout=60) as peer:
-        peer.sendall(data)
-        text = b""
-        while more := peer.recv(1 << 16):
-            text += more
-    head, _, body = text.decode().partition("\r\n\r\n")
-    return head, body
 
 
 @pytest.mark.parametrize("answer, status, said", [
@@ -167,7 +157,7 @@ def test_the_words_of_the_service(monkeypatch, capsys):
     assert ends(LEGACY, monkeypatch, capsys) == (0, "listening on 127.0.0.1:7\n", "")
     words = ["--listen", "127.0.0.2:1", "--index", "y:2", "--at-once", "64"]
     assert ends(LEGACY, monkeypatch, capsys, *words)[1] == "listening on 127.0.0.2:7\n"
-    assert made == [(("127.0.0.1", 8090), "127.0.0.1:8080", 4), (("127.0.0.2", 1), "y:2", 64)]
+    assert made == [(("127.0.0.1", 8090), "127.0.0.1:8080", 4, None), (("127.0.0.2", 1), "y:2", 64, None)]
     for number in ("0", "65"):
         assert ends(LEGACY, monkeypatch, capsys, "--at-once", number)[0] == 2
     calls(monkeypatch, LEGACY, "Server", raises(OSError("in use")))

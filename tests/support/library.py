@@ -19,6 +19,7 @@ from package_index import (
     exchange,
     exposition,
     followed,
+    forms,
     front,
     fronts,
     grown,
@@ -26,6 +27,9 @@ from package_index import (
     log_place,
     looks,
     names,
+    passes,
+    publishers,
+    replies,
     tallies,
     two_machines,
     units,
@@ -33,5 +37,5 @@ from package_index import (
 )
 
 __all__ = ["cache", "changes", "commands", "copies", "counted", "database", "disk", "ends", "exchange", "exposition",
-           "followed", "front", "fronts", "grown", "hints", "log_place", "looks", "names", "tallies", "two_machines",
-           "units", "watched"]
+           "followed", "forms", "front", "fronts", "grown", "hints", "log_place", "looks", "names", "passes",
+           "publishers", "replies", "tallies", "two_machines", "units", "watched"]

@@ -50,7 +50,7 @@ def tell_missing(name: str, package: str) -> None:
     said = f"{name} is not installed: package {package} of Debian has it"
     if is_gate():
         pytest.fail(said, pytrace=False)
-    pytest.skip(said)
+    pytest.skip(said, allow_module_level=True)
 
 
 # so many reasons are printed one by one

@@ -42,6 +42,8 @@ QUICK = {
     "jq": "jq",
     # read the page of the office, and the manual page of indexctl; render descriptions of projects
     "chromium": "chromium", "groff": "groff", "python3-readme-renderer": "import readme_renderer",
+    # check identity tokens of pipelines, and sign some
+    "python3-jwt": "import jwt", "python3-cryptography": "import cryptography",
     # read the file for Pacemaker
     "crmsh": "crm", "pacemaker-cli-utils": "crm_verify",
 }

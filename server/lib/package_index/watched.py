@@ -11,7 +11,7 @@ from package_index.units import shown
 
 # what is off only if somebody stopped it. (An index is stopped for a restore, and index-health tells of it.)
 TIMERS = ["index-health.timer", "index-backup.timer", "index-certificate.timer", "index-metrics.timer",
-          "index-page.timer", "index-site.timer", "index-uncache-follow.service"]
+          "index-page.timer", "index-publishers.timer", "index-site.timer", "index-uncache-follow.service"]
 # what looks has failed itself only if this is not reached
 SELF = "index-alarms.service"
 # so long a unit has to be well until that is told: one that fails each other minute is not

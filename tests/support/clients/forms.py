@@ -8,6 +8,7 @@ import subprocess
 import sys
 import time
 from contextlib import suppress
+from http.server import HTTPServer
 from typing import Optional, Tuple
 
 from support.places import BIN
@@ -66,6 +67,17 @@ def sent(port: int, *pieces: bytes, pause: float = 0, patience: float = 90) -> t
             reply += more
     found = re.match(rb"HTTP/1\.1 (\d{3}) ([^\r\n]*)\r\n", reply)
     return (int(found[1]), found[2].decode(), reply.decode()) if found else None, time.monotonic() - begun
+
+
+def asked(serving: HTTPServer, data: bytes) -> tuple[str, str]:
+    """The head and the body of the reply of a service in this process to a whole request."""
+    with socket.create_connection(serving.server_address, timeout=60) as peer:
+        peer.sendall(data)
+        text = b""
+        while more := peer.recv(1 << 16):
+            text += more
+    head, _, body = text.decode().partition("\r\n\r\n")
+    return head, body
 
 
 class Service(Running):
