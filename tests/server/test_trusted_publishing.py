@@ -93,11 +93,12 @@ def test_a_pipeline_uploads_what_its_publisher_has_and_nothing_else(world, issue
 # the cases of the best practices (RFC 8725) and of what issuers sign for others
 REFUSED = {
     "alg none": ({}, {"algorithm": "none"}), "alg none with a signature": ({}, {"alg": "none"}),
-    "HS256 by the public key": ({}, {"algorithm": "HS256"}), "PS256": ({}, {"alg": "PS256"}),
+    "HS256 by the public key": ({}, {"algorithm": "HS256"}), "PS256": ({}, {"algorithm": "PS256"}),
     "other kid": ({}, {"kid": "k9"}), "the kid of another key": ({}, {"kid": "k2"}),
     "crit": ({}, {"crit": ["exp"]}), "an access token": ({}, {"typ": "at+jwt"}),
     "other audience": ({"aud": "https://pypi.org"}, {}), "no audience": ({"aud": None}, {}),
-    "ended": ({"exp": 1_700_000_000}, {}), "no end": ({"exp": None}, {}), "not yet": ({"nbf": 4_000_000_000}, {}),
+    "ended": ({"iat": 1_699_999_000, "exp": 1_700_000_000}, {}),
+    "no end": ({"exp": None}, {}), "not yet": ({"nbf": 4_000_000_000}, {}),
     "made later": ({"iat": 4_000_000_000, "exp": 4_000_000_600}, {}), "for years": ({"exp": 4_000_000_000}, {}),
     "other issuer": ({"iss": "https://gitlab.com"}, {}), "issuer a list": ({"iss": ["https://gitlab.example"]}, {}),
     "no id": ({"jti": None}, {}), "other project": ({"project_path": "team/evil"}, {}),

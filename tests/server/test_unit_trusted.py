@@ -266,6 +266,13 @@ def test_a_refusal_of_an_upload_names_the_publisher_in_the_log(monkeypatch, caps
     assert head.startswith("HTTP/1.1 409 FileNameTaken") and capsys.readouterr().err == f"409 {WHEEL} by frob\n"
 
 
+def test_a_user_of_a_publisher_whose_token_was_changed_is_told_as_the_operators(monkeypatch, exchange, issuer):
+    made = passed(exchange, issuer.token())
+    with service(monkeypatch, exchange, (401, "BadToken")) as (serving, _):
+        head, _ = asked(serving, message(form(WHEEL, DATA), made))
+    assert head.startswith("HTTP/1.1 401 BadToken: No user has this token, which comes from the operator's entry frob.")
+
+
 def test_another_project_than_that_of_the_publisher_does_not_reach_the_index(monkeypatch, exchange, issuer):
     made = passed(exchange, issuer.token())
     with service(monkeypatch, exchange) as (serving, given):

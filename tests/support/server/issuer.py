@@ -102,6 +102,10 @@ class Issuer:
         if algorithm == "ES256":
             pair = decode_dss_signature(self.curve.sign(signed, ec.ECDSA(hashes.SHA256())))
             return b"".join(it.to_bytes(32, "big") for it in pair)
+        if algorithm == "PS256":
+            # a signature by the right key, of a kind that nobody asked for
+            whole = padding.PSS(padding.MGF1(hashes.SHA256()), hashes.SHA256.digest_size)
+            return self.rsa.sign(signed, whole, hashes.SHA256())
         # what an attacker may have who knows the public key alone
         return hmac.new(self.public_pem(), signed, hashlib.sha256).digest() if algorithm == "HS256" else b""
 
