@@ -2,14 +2,14 @@
 from __future__ import annotations
 
 import argparse
+import importlib
 import re
 import shutil
 import textwrap
-from dataclasses import dataclass
-from typing import Any, Callable, Dict, List, NoReturn, Optional, Sequence, Tuple
+from typing import Any, Callable, Dict, List, NamedTuple, NoReturn, Optional, Sequence, Tuple
 
 from indexctl.about import ABOUT, AGAIN, ENVIRONMENT, FILES, STATUSES, VERSION
-from indexctl.near import MOST_SHOWN, is_near
+from indexctl.commands import COMMANDS
 
 Run = Callable[[argparse.Namespace], Optional[int]]
 # single words that people know from elsewhere, each with the command that it is
@@ -27,8 +27,7 @@ OF_TWINE = {"--skip-existing": "A file that is there with the same bytes is no e
 LEAST_COLUMNS, MOST_COLUMNS = 20, 118
 
 
-@dataclass(frozen=True)
-class Argument:
+class Argument(NamedTuple):
     """A positional argument of a command, or an option of it, as argparse's `add_argument` takes it."""
     names: Tuple[str, ...]
     settings: Dict[str, Any]
@@ -38,8 +37,7 @@ class Argument:
         return self.names[0].startswith("-")
 
 
-@dataclass(frozen=True)
-class Command:
+class Command(NamedTuple):
     """A command: the words that name it, one line of help, its arguments, and what it does."""
     path: str
     summary: str
@@ -47,24 +45,37 @@ class Command:
     function: Run
 
 
-COMMANDS: List[Command] = []
+LOADED: Dict[str, Command] = {}
 
 
 def argument(*names: str, **settings: Any) -> Argument:
     return Argument(names, settings)
 
 
-def command(path: str, summary: str, *arguments: Argument) -> Callable[[Run], Run]:
-    """Makes a function a command. It gets what the command line says, and gives the status; none is 0."""
+def command(path: str, *arguments: Argument) -> Callable[[Run], Run]:
+    """Makes a function the command of these words. It gets what the command line says, and gives the status; none is
+    0."""
     def keep(function: Run) -> Run:
-        COMMANDS.append(Command(path, summary, arguments, function))
+        summary = next(summary for known, _, summary in COMMANDS if known == path)
+        LOADED[path] = Command(path, summary, arguments, function)
         return function
     return keep
 
 
+def load(words: Optional[Sequence[str]] = None) -> List[Command]:
+    """The commands whose words are all among these, or all commands, with their modules loaded."""
+    typed = {part for word in words or () for part in (word, *ALIASES.get(word, "").split())}
+    found = [(path, module) for path, module, _ in COMMANDS if words is None or typed.issuperset(path.split())]
+    for _, module in found:
+        importlib.import_module(f"indexctl.{module}")
+    return [LOADED[path] for path, _ in found]
+
+
 def meant(noun: str, word: str) -> List[str]:
     """The commands that a word behind this noun may mean: one of the noun, or the list of what it names, or any."""
-    paths = [it.path for it in COMMANDS]
+    # (it loads what asks an index, which a word that is right has no need of)
+    from indexctl.near import MOST_SHOWN, is_near
+    paths = [path for path, _, _ in COMMANDS]
     nouns = [] if noun else [it for it in dict.fromkeys(path.split()[0] for path in paths) if is_near(it, word)]
     own = [it for it in paths if noun and it.startswith(f"{noun} ") and is_near(it.split()[1], word)]
     lists = [it for it in paths if noun and it == f"{noun}s"]
@@ -132,8 +143,9 @@ def epilog() -> str:
     return "\n\n".join(f"{title}:\n" + "\n".join(entry(*it) for it in pairs) for title, pairs in parts)
 
 
-def parsers(commands: Sequence[Command]) -> Tuple[Parser, Dict[str, Parser]]:
-    """The parser of the whole command line, and that of each command by its path."""
+def parsers(loaded: Sequence[Command]) -> Tuple[Parser, Dict[str, Parser]]:
+    """The parser of the whole command line, and that of each of these commands by its path. It lists the others, and
+    takes none of their words."""
     plain = argparse.RawDescriptionHelpFormatter
     top = Parser(prog="indexctl", description=wrapped(ABOUT), epilog=epilog(), formatter_class=plain)
     top.add_argument("--version", action="version", version=f"indexctl {VERSION}")
@@ -143,25 +155,38 @@ def parsers(commands: Sequence[Command]) -> Tuple[Parser, Dict[str, Parser]]:
     add_common(common, argparse.SUPPRESS, argparse.SUPPRESS)
     nouns = {"": top.add_subparsers(metavar="COMMAND", dest="noun", required=True)}
     made: Dict[str, Parser] = {}
-    for it in commands:
-        noun, _, verb = it.path.rpartition(" ")
+    known = {it.path: it for it in loaded}
+    for path, _, summary in COMMANDS:
+        noun, _, verb = path.rpartition(" ")
         if noun not in nouns:
-            verbs = [other for other in commands if other.path.startswith(f"{noun} ")]
-            summary = ", ".join(other.path.split()[1] for other in verbs)
-            group = nouns[""].add_parser(noun, help=summary, description=f"indexctl {noun}: {summary}")
+            verbs = ", ".join(other.split()[1] for other, _, _ in COMMANDS if other.startswith(f"{noun} "))
+            group = nouns[""].add_parser(noun, help=verbs, description=f"indexctl {noun}: {verbs}")
             nouns[noun] = group.add_subparsers(metavar="VERB", dest="verb", required=True)
-        about = wrapped(f"{sentence(it.summary)}\n\n{more_text(it.function)}".strip())
-        parser = nouns[noun].add_parser(verb, help=it.summary, formatter_class=plain, parents=[common],
-                                        description=about)
-        for given in it.arguments:
-            parser.add_argument(*given.names, **given.settings)
-        places = [given for given in it.arguments if not given.is_option]
-        plural = places[-1].names[0] if places and places[-1].settings.get("nargs") in ("+", "*") else None
-        parser.set_defaults(function=it.function, parser=parser, plural=plural)
-        made[it.path] = parser
+        it = known.get(path)
+        about = wrapped(f"{sentence(summary)}\n\n{more_text(it.function)}".strip()) if it else None
+        parser = nouns[noun].add_parser(verb, help=summary, formatter_class=plain, description=about,
+                                        parents=[common] if it else [], add_help=bool(it))
+        if it:
+            made[path] = parser
+            add_arguments(parser, it)
     for alias, path in ALIASES.items():
-        if path in made:
-            parser = nouns[""].add_parser(alias, help=f"is `{path}`", parents=[made[path]], add_help=False,
-                                          formatter_class=plain, description=made[path].description)
-            parser.set_defaults(parser=parser)
+        parents = [made[path]] if path in made else []
+        parser = nouns[""].add_parser(alias, help=f"is `{path}`", parents=parents, add_help=False,
+                                      formatter_class=plain, description=parents[0].description if parents else None)
+        parser.set_defaults(parser=parser)
     return top, made
+
+
+def add_arguments(parser: Parser, it: Command) -> None:
+    for given in it.arguments:
+        parser.add_argument(*given.names, **given.settings)
+    places = [given for given in it.arguments if not given.is_option]
+    plural = places[-1].names[0] if places and places[-1].settings.get("nargs") in ("+", "*") else None
+    parser.set_defaults(function=it.function, parser=parser, plural=plural)
+
+
+def parsed(words: Sequence[str]) -> argparse.Namespace:
+    """What a command line of these words says. It ends the run with usage or help if that is asked for, or if it says
+    nothing that can be done."""
+    found: argparse.Namespace = parsers(load(words))[0].parse_args(words)
+    return found

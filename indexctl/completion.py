@@ -8,7 +8,7 @@ from contextlib import suppress
 from dataclasses import dataclass
 from typing import Dict, List, Optional, Sequence
 
-from indexctl.command_line import ALIASES, COMMANDS, Command, argument, command
+from indexctl.command_line import ALIASES, Command, argument, command, load
 from indexctl.contents import find_contents, releases_of
 from indexctl.ends import Stop
 from indexctl.settings import find_setting
@@ -93,7 +93,7 @@ def script_of(commands: Sequence[Command]) -> str:
 def read_line(words: Sequence[str]) -> Optional[Line]:
     """What stands on a line of these words, or None if the index has nothing for the last of them."""
     paths = (ALIASES.get(words[0], words[0]), " ".join(words[:2]))
-    found = next((it for it in COMMANDS if it.path in paths), None)
+    found = next((it for it in load(words[:2]) if it.path in paths), None)
     size = 1 if words[0] in ALIASES else len(found.path.split()) if found else 0
     if not found or len(words) <= size:
         return None
@@ -158,7 +158,7 @@ def found_in_time(line: Line) -> List[str]:
     return [] if looking.is_alive() else [it for it in found if PLAIN.fullmatch(it) and it not in line.given]
 
 
-@command("completion", "prints the completion of the shell", argument("shell", choices=("bash",), metavar="bash"),
+@command("completion", argument("shell", choices=("bash",), metavar="bash"),
          argument("words", nargs="*", metavar="WORD",
                   help="the words of a command line behind `--`, of which the last is typed: prints what the index has "
                        "for it"))
@@ -166,7 +166,7 @@ def completion(args: argparse.Namespace) -> None:
     """Put it where your shell finds it, as into ~/.local/share/bash-completion/completions/indexctl. It completes
     names, files and releases from the index."""
     if not args.words:
-        put(script_of(COMMANDS), end="")
+        put(script_of(load()), end="")
         return
     line = read_line(args.words)
     if line and line.kind in FINDERS:

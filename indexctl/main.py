@@ -5,8 +5,7 @@ import io
 import os
 import sys
 
-from indexctl.command_line import parsers
-from indexctl.commands import COMMANDS
+from indexctl.command_line import parsed
 from indexctl.ends import INTERRUPTED, PIPE_CLOSED, WRONG, Stop
 from indexctl.terminal import drop, note, put
 
@@ -24,7 +23,7 @@ def main() -> int:
             stream.reconfigure(errors="backslashreplace")
     try:
         try:
-            args = parsers(COMMANDS)[0].parse_args()
+            args = parsed(sys.argv[1:])
             return int(args.function(args) or 0)
         except Stop as end:
             note(f"indexctl: {end}", "red")

@@ -6,7 +6,7 @@ import re
 from typing import List
 
 from indexctl.about import ABOUT, AGAIN, ENVIRONMENT, FILES, STATUSES, VERSION
-from indexctl.command_line import ALIASES, COMMANDS, Command, command, more_text, parsers, sentence
+from indexctl.command_line import ALIASES, Command, command, load, more_text, parsers, sentence
 from indexctl.terminal import put
 
 
@@ -41,17 +41,18 @@ def manual_of(it: Command, parser: argparse.ArgumentParser) -> List[str]:
     return lines
 
 
-@command("man", "prints the manual page")
+@command("man")
 def man(args: argparse.Namespace) -> None:
     """Read it by `indexctl man | man -l -`, or put it into /usr/local/share/man/man1/indexctl.1."""
-    made = parsers(COMMANDS)[1]
+    commands = load()
+    made = parsers(commands)[1]
     lines = [f'.TH INDEXCTL 1 "" "indexctl {VERSION}" "Python package index"', ".SH NAME",
              "indexctl \\- asks a Python package index for what its owners and its office need",
              ".SH SYNOPSIS", ".B indexctl", "\\fINOUN VERB\\fR [\\fIOPTION\\fR ...] \\fIWORD\\fR ...",
              ".SH DESCRIPTION", roff(ABOUT), ".SH OPTIONS", "Each command that asks the index takes these.",
              ".TP", ".B \\-\\-profile NAME", "the index of this profile.",
              ".TP", ".B \\-\\-again N", f"{roff(AGAIN)}.", ".SH COMMANDS"]
-    for it in COMMANDS:
+    for it in commands:
         lines += manual_of(it, made[it.path])
     for title, pairs in (("ENVIRONMENT", ENVIRONMENT), ("FILES", FILES), ("EXIT STATUS", STATUSES)):
         lines += [f".SH {title}"]

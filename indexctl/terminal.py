@@ -2,7 +2,6 @@
 from __future__ import annotations
 
 import argparse
-import dataclasses
 import json
 import os
 import shutil
@@ -149,6 +148,8 @@ def texts(*heads: str) -> Columns:
 
 
 def as_json(row: Any) -> object:
+    # (it takes as long to load as all else here)
+    import dataclasses
     return dataclasses.asdict(row) if dataclasses.is_dataclass(row) else row
 
 

@@ -1,9 +1,58 @@
-"""The commands, by subject. Importing this package makes them known, in the order in which help lists them."""
-from indexctl.commands import (
-    tokens, users, names, files, releases, listings, contents, cases, work, site, moving, inventory, history, doctor,
-    helps)
-from indexctl import completion, shell
-from indexctl.command_line import COMMANDS
+"""The commands in the order in which help lists them: the words of each, the module that has it, and what help says of
+it. A module is loaded when one of its commands is called, so that a start is quick."""
+from __future__ import annotations
 
-__all__ = ["COMMANDS", "tokens", "users", "names", "files", "releases", "listings", "contents", "cases", "work", "site",
-           "moving", "inventory", "history", "doctor", "helps", "completion", "shell"]
+from typing import Tuple
+
+COMMANDS: Tuple[Tuple[str, str, str], ...] = (
+    ("token new", "commands.tokens", "makes a token, and prints it once with its digest"),
+    ("token digest", "commands.tokens", "prints the digest of a token that is typed or piped in"),
+    ("token check", "commands.checks", "says which index you ask, and whether your token is known there"),
+    ("profile", "commands.tokens", "lists the profiles of ~/.config/indexctl.ini"),
+    ("user add", "commands.users", "adds users; each gets a new token, which is printed once (office)"),
+    ("user rotate", "commands.users", "gives a user another token at once (office)"),
+    ("user lock", "commands.users", "gives users a token that nobody knows (office)"),
+    ("user leave", "commands.users", "passes a user's names to another, and locks the user (office)"),
+    ("name claim", "commands.names", "claims names that nobody holds"),
+    ("name relinquish", "commands.names", "gives a name up, so that anybody may claim it"),
+    ("name prohibit", "commands.names", "prohibits names, and deletes their files (office)"),
+    ("name allow", "commands.names", "frees names that were prohibited (office)"),
+    ("owner add", "commands.names", "makes a user an owner of names"),
+    ("owner remove", "commands.names", "takes a user off the owners of names"),
+    ("file delete", "commands.files", "deletes files; the same bytes may be uploaded again"),
+    ("file ban", "commands.files", "bans files for good (office)"),
+    ("files", "commands.contents", "lists the files of names, with sizes, yanks and digests"),
+    ("releases", "commands.contents", "lists the releases of a name, the newest first, with yanks and their reasons"),
+    ("status", "commands.contents", "shows a name: owners, quota, an open case and what it lacks, files, and yanks"),
+    ("release yank", "commands.releases", "marks releases, so that installers pass them over"),
+    ("release unyank", "commands.releases", "takes the mark off releases"),
+    ("release delete", "commands.releases", "deletes all files of releases, such as those of old nightly builds"),
+    ("quota set", "commands.listings", "gives names another quota (office)"),
+    ("quota show", "commands.listings", "shows how full the quotas of names are"),
+    ("quotas", "commands.listings", "lists the quotas of all names, the fullest first"),
+    ("names", "commands.listings", "lists all held names with their owners"),
+    ("search", "commands.listings", "lists the held names that have each of these words in them"),
+    ("who", "commands.listings", "shows how names stand: who owns them, their quota, and whether a case is open"),
+    ("owned-by", "commands.listings", "lists the names that a user owns"),
+    ("case list", "commands.cases", "lists the open cases with what each lacks, the soonest first"),
+    ("case show", "commands.cases", "shows an open case with its texts"),
+    ("case open", "commands.cases", "asks for a name whose owner can't be reached"),
+    ("case attempt", "commands.cases", "records an attempt to reach the owners of names (office)"),
+    ("case answer", "commands.cases", "ends cases as an owner"),
+    ("case close", "commands.cases", "closes cases, as the office or their candidate"),
+    ("case transfer", "commands.cases", "passes names to the candidates of their cases (office)"),
+    ("upload", "commands.work", "uploads wheels and source archives"),
+    ("page", "commands.work", "writes the page of the office into a folder"),
+    ("replay", "commands.work", "asks again for the changes of a record, after a restore"),
+    ("site", "commands.site", "writes pages for everybody into a folder: a list of all projects, and a page of each"),
+    ("import", "commands.moving", "imports projects from a folder or from another index"),
+    ("export", "commands.moving", "writes projects with their files, yanks and owners into a folder"),
+    ("inventory", "commands.inventory",
+     "lists users, prohibited names, banned files, quiet names and sole owners, from a backup"),
+    ("history", "commands.history", "lists who changed what, when and from where, by nginx's logs of changes"),
+    ("doctor", "commands.doctor", "looks at all that may keep you from the index, and says what to do"),
+    ("help", "commands.helps", "shows the help of a command, or of the whole"),
+    ("version", "commands.helps", "prints the version of indexctl"),
+    ("completion", "completion", "prints the completion of the shell"),
+    ("man", "shell", "prints the manual page"),
+)

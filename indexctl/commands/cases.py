@@ -29,7 +29,7 @@ CASE_COLUMNS: Columns = {
     "lacks": lacks_text, "tried": lambda row: str(row.contact), **texts("work", "why")}
 
 
-@command("case list", "lists the open cases with what each lacks, the soonest first", JSON)
+@command("case list", JSON)
 def case_list(args: argparse.Namespace) -> None:
     """With a token of the office it also says whether a year has passed since the latest upload, which no answer shows.
     It asks for a transfer that states that the home page is not quiet; such a transfer is always refused."""
@@ -41,7 +41,7 @@ def case_list(args: argparse.Namespace) -> None:
         note("The year since the latest upload was not looked at: that takes a token of the office.")
 
 
-@command("case show", "shows an open case with its texts", NAME, JSON)
+@command("case show", NAME, JSON)
 def case_show(args: argparse.Namespace) -> None:
     desk, now = Desk(args), int(time.time())
     found = held(desk.index, args.name)
@@ -53,7 +53,7 @@ def case_show(args: argparse.Namespace) -> None:
     show(args, rows[0], {head: text(rows[0]) for head, text in CASE_COLUMNS.items()})
 
 
-@command("case open", "asks for a name whose owner can't be reached", NAME,
+@command("case open", NAME,
          argument("--kind", required=True, choices=("continue", "reuse"),
               help="continue the project, or reuse the name for another"),
          argument("--contact", required=True, metavar="TEXT", help="how you tried to reach the owner"),
@@ -71,7 +71,7 @@ def case_open(args: argparse.Namespace) -> int:
                        work=args.work, why=args.why)
 
 
-@command("case attempt", "records an attempt to reach the owners of names (office)", NAMES,
+@command("case attempt", NAMES,
          argument("means", metavar="MEANS", choices=MEANS, help="profile, author or pages"),
          argument("--not-sent", action="store_true", help="the owner has left no address of this kind"), JSON_LINES)
 def case_attempt(args: argparse.Namespace) -> int:
@@ -80,17 +80,17 @@ def case_attempt(args: argparse.Namespace) -> int:
     return each_name(args, "record_attempt", what, means=args.means, sent=not args.not_sent)
 
 
-@command("case answer", "ends cases as an owner", NAMES, JSON_LINES)
+@command("case answer", NAMES, JSON_LINES)
 def case_answer(args: argparse.Namespace) -> int:
     return each_name(args, "answer_case", "case of {}: answer")
 
 
-@command("case close", "closes cases, as the office or their candidate", NAMES, JSON_LINES)
+@command("case close", NAMES, JSON_LINES)
 def case_close(args: argparse.Namespace) -> int:
     return each_name(args, "close_case", "case of {}: close")
 
 
-@command("case transfer", "passes names to the candidates of their cases (office)", NAMES,
+@command("case transfer", NAMES,
          argument("--quiet", action="store_true", required=True,
               help="you looked: the home page of each owner shows no activity, or none is listed"), YES, JSON_LINES)
 def case_transfer(args: argparse.Namespace) -> int:

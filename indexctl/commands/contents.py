@@ -49,7 +49,7 @@ def contents_of(index: Index, name: str) -> List[FileRow]:
     return found
 
 
-@command("files", "lists the files of names, with sizes, yanks and digests", NAMES, JSON)
+@command("files", NAMES, JSON)
 def files(args: argparse.Namespace) -> None:
     """The newest release comes first."""
     check_names(*args.names)
@@ -59,14 +59,14 @@ def files(args: argparse.Namespace) -> None:
                          **texts("sha256")})
 
 
-@command("releases", "lists the releases of a name, the newest first, with yanks and their reasons", NAME, JSON)
+@command("releases", NAME, JSON)
 def releases(args: argparse.Namespace) -> None:
     check_names(args.name)
     rows = releases_of(args.name, contents_of(Desk(args).index, args.name))
     listing(args, rows, RELEASE_COLUMNS)
 
 
-@command("status", "shows a name: owners, quota, an open case and what it lacks, files, and yanks", NAME, JSON)
+@command("status", NAME, JSON)
 def status(args: argparse.Namespace) -> None:
     check_names(args.name)
     desk = Desk(args)

@@ -10,7 +10,7 @@ from indexctl.ends import REFUSED
 from indexctl.terminal import listing, texts
 
 
-@command("doctor", "looks at all that may keep you from the index, and says what to do", JSON)
+@command("doctor", JSON)
 def doctor(args: argparse.Namespace) -> int:
     """It looks at the address, the proxy, the host, the certificate and its days, the answer, your clock, your token,
     the version of indexctl, and the record. Nothing is changed by it. The status is 1 if something is wrong."""

@@ -32,7 +32,7 @@ def tell_file(index: Index, file: str, project: str, files: Optional[Sequence[Fi
     return f"{file} has {human(row.size)}{'' if row.yanked is None else ', and is yanked'}."
 
 
-@command("file delete", "deletes files; the same bytes may be uploaded again", FILES, YES, JSON_LINES)
+@command("file delete", FILES, YES, JSON_LINES)
 def file_delete(args: argparse.Namespace) -> int:
     """On a terminal it shows the files first, and asks. The name of a file stays bound to its bytes. Who knows a file's
     address still gets it from nginx, until the index-uncache line that is printed is run on the server."""
@@ -45,7 +45,7 @@ def file_delete(args: argparse.Namespace) -> int:
     return desk.status()
 
 
-@command("file ban", "bans files for good (office)", FILES, YES, JSON_LINES)
+@command("file ban", FILES, YES, JSON_LINES)
 def file_ban(args: argparse.Namespace) -> int:
     """No upload of the file is accepted from then on, and nothing takes a ban back. At its end it says whether the
     address of a file still gives it, as nginx does until the index-uncache line is run on the server."""

@@ -5,18 +5,18 @@ import argparse
 import json
 
 from indexctl.about import VERSION
-from indexctl.command_line import COMMANDS, argument, command, parsers
+from indexctl.command_line import argument, command, parsed
 from indexctl.commands.arguments import JSON
 from indexctl.terminal import put
 
 
-@command("help", "shows the help of a command, or of the whole",
+@command("help",
          argument("words", nargs="*", metavar="COMMAND", help="such as `release yank`"))
 def help_of(args: argparse.Namespace) -> None:
-    parsers(COMMANDS)[0].parse_args([*args.words, "--help"])
+    parsed([*args.words, "--help"])
 
 
-@command("version", "prints the version of indexctl", JSON)
+@command("version", JSON)
 def version(args: argparse.Namespace) -> None:
     """`indexctl doctor` compares it with that of the index."""
     put(json.dumps({"version": VERSION}) if args.json else f"indexctl {VERSION}")

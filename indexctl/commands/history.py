@@ -63,7 +63,7 @@ def logs_here() -> List[str]:
     return found
 
 
-@command("history", "lists who changed what, when and from where, by nginx's logs of changes",
+@command("history",
          argument("logs", nargs="*", metavar="LOG",
                   help="logs, also rotated ones, or a record; those of this machine's nginx if you name none"),
          argument("--users", action="append", default=[], metavar="BACKUP",

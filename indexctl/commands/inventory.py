@@ -17,7 +17,7 @@ def last_text(row: Any) -> str:
     return "never" if row.last_upload is None else moment(row.last_upload)
 
 
-@command("inventory", "lists users, prohibited names, banned files, quiet names and sole owners, from a backup",
+@command("inventory",
          argument("backup", metavar="BACKUP", help="a copy that index-backup made, such as index-20261124T031500Z.db"),
          JSON)
 def inventory(args: argparse.Namespace) -> None:

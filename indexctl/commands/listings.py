@@ -53,7 +53,7 @@ def held(index: Index, name: str) -> Standing:
     return found
 
 
-@command("quota set", "gives names another quota (office)", NAMES,
+@command("quota set", NAMES,
          argument("size", metavar="SIZE", help="5GiB, 700MB or a number of bytes; +1GiB adds to what the name has"),
          JSON_LINES)
 def quota_set(args: argparse.Namespace) -> int:
@@ -72,13 +72,13 @@ QUOTA_COLUMNS: Columns = {**texts("name"), "full": lambda row: f"{row.full:.1f} 
                           "quota": lambda row: human(row.quota), **texts("owners")}
 
 
-@command("quota show", "shows how full the quotas of names are", NAMES, JSON)
+@command("quota show", NAMES, JSON)
 def quota_show(args: argparse.Namespace) -> None:
     index = Desk(args).index
     listing(args, [quota_row(held(index, name)) for name in args.names], QUOTA_COLUMNS)
 
 
-@command("quotas", "lists the quotas of all names, the fullest first",
+@command("quotas",
          argument("--above", type=float, default=0.0, metavar="PERCENT",
                   help="only those that are at least so full"), JSON)
 def quotas(args: argparse.Namespace) -> None:
@@ -91,12 +91,12 @@ def list_names(args: argparse.Namespace, found: Iterable[Standing]) -> None:
                          "case": lambda row: "open" if row.case else ""})
 
 
-@command("names", "lists all held names with their owners", JSON)
+@command("names", JSON)
 def names(args: argparse.Namespace) -> None:
     list_names(args, held_names(Desk(args).index))
 
 
-@command("search", "lists the held names that have each of these words in them",
+@command("search",
          argument("words", nargs="+", metavar="WORD", help="a part of a name, in any spelling"), JSON)
 def search(args: argparse.Namespace) -> None:
     """It looks at names alone. If your index has pages for everybody, a browser also finds summaries there."""
@@ -109,7 +109,7 @@ def search(args: argparse.Namespace) -> None:
     list_names(args, standings_of(index, found))
 
 
-@command("who", "shows how names stand: who owns them, their quota, and whether a case is open", NAMES, JSON)
+@command("who", NAMES, JSON)
 def who(args: argparse.Namespace) -> None:
     check_names(*args.names)
     index = Desk(args).index
@@ -121,7 +121,7 @@ def who(args: argparse.Namespace) -> None:
                          "case": lambda row: f"of {row.case.candidate}" if row.case else ""}, lambda row: row.given)
 
 
-@command("owned-by", "lists the names that a user owns", USER, JSON)
+@command("owned-by", USER, JSON)
 def owned_by(args: argparse.Namespace) -> None:
     check_users(args.user)
     found = [it for it in held_names(Desk(args).index) if args.user in it.owners]

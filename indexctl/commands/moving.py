@@ -50,7 +50,7 @@ def found_at(source: Source, args: argparse.Namespace) -> Found:
     return found
 
 
-@command("import", "imports projects from a folder or from another index",
+@command("import",
          argument("source", metavar="SOURCE", help="a folder, of any depth, or the address of an index's /simple/"),
          argument("names", nargs="*", metavar="PROJECT", help="only these, such as frob or frob==1.0"),
          argument("--owners", metavar="FILE", help="makes others owners too: a CSV file with `name,user` in each line"),
@@ -101,7 +101,7 @@ def tell_left(left: Sequence[Left]) -> None:
         say(f"left: {it.place}: {it.why}", "yellow")
 
 
-@command("export", "writes projects with their files, yanks and owners into a folder",
+@command("export",
          argument("folder", metavar="DIR", help="the folder, which is made if it is not there"),
          argument("names", nargs="*", metavar="NAME", help="only these projects"), JSON)
 def export(args: argparse.Namespace) -> int:

@@ -45,12 +45,12 @@ def tell_uncache(desk: Desk, project: str, files: Sequence[str]) -> None:
         desk.say(run, {"do": "uncache", "name": project, "file": file, "run": run})
 
 
-@command("name claim", "claims names that nobody holds", NAMES, JSON_LINES)
+@command("name claim", NAMES, JSON_LINES)
 def name_claim(args: argparse.Namespace) -> int:
     return each_name(args, "claim", "claim {}")
 
 
-@command("name relinquish", "gives a name up, so that anybody may claim it", NAME, YES, JSON_LINES)
+@command("name relinquish", NAME, YES, JSON_LINES)
 def name_relinquish(args: argparse.Namespace) -> int:
     check_names(args.name)
     desk = Desk(args)
@@ -59,7 +59,7 @@ def name_relinquish(args: argparse.Namespace) -> int:
     return desk.status()
 
 
-@command("name prohibit", "prohibits names, and deletes their files (office)", NAMES, YES, JSON_LINES)
+@command("name prohibit", NAMES, YES, JSON_LINES)
 def name_prohibit(args: argparse.Namespace) -> int:
     """The files, owners, yanks and the case of each name go. What nginx has cached still goes out: run the
     index-uncache lines that are printed, on the server. At its end it says of which files that is so."""
@@ -80,19 +80,19 @@ def name_prohibit(args: argparse.Namespace) -> int:
     return desk.status()
 
 
-@command("name allow", "frees names that were prohibited (office)", NAMES, JSON_LINES)
+@command("name allow", NAMES, JSON_LINES)
 def name_allow(args: argparse.Namespace) -> int:
     return each_name(args, "allow", "allow {}")
 
 
-@command("owner add", "makes a user an owner of names", USER, NAMES, JSON_LINES)
+@command("owner add", USER, NAMES, JSON_LINES)
 def owner_add(args: argparse.Namespace) -> int:
     """An owner may do everything with a name, also remove you. Give each pipeline a user of its own."""
     check_users(args.user)
     return each_name(args, "add_owner", f"{{}}: add owner {args.user}", user=args.user)
 
 
-@command("owner remove", "takes a user off the owners of names", USER, NAMES, YES, JSON_LINES)
+@command("owner remove", USER, NAMES, YES, JSON_LINES)
 def owner_remove(args: argparse.Namespace) -> int:
     """On a terminal it shows who stays, and asks: only another owner can take you back."""
     check_users(args.user)

@@ -38,7 +38,7 @@ def releases_meant(args: argparse.Namespace) -> List[Pair]:
     return pairs
 
 
-@command("release yank", "marks releases, so that installers pass them over", NAME_OF_RELEASES, RELEASES,
+@command("release yank", NAME_OF_RELEASES, RELEASES,
          argument("--reason", default="", metavar="TEXT", help="what a person who installs it should know"), YES,
          JSON_LINES)
 def release_yank(args: argparse.Namespace) -> int:
@@ -52,7 +52,7 @@ def release_yank(args: argparse.Namespace) -> int:
     return desk.status()
 
 
-@command("release unyank", "takes the mark off releases", NAME_OF_RELEASES, RELEASES, JSON_LINES)
+@command("release unyank", NAME_OF_RELEASES, RELEASES, JSON_LINES)
 def release_unyank(args: argparse.Namespace) -> int:
     pairs, desk = releases_meant(args), Desk(args)
     for name, release in pairs:
@@ -92,7 +92,7 @@ def no_release(name: str, release: str, files: Sequence[FileRow]) -> str:
     return f"{name} has no release {release}.{did_you_mean(release, known)}"
 
 
-@command("release delete", "deletes all files of releases, such as those of old nightly builds", NAME_OF_RELEASES,
+@command("release delete", NAME_OF_RELEASES,
          RELEASES,
          argument("--keep", type=int, metavar="N", help="in place of RELEASE: all but the newest N by PEP 440"),
          argument("--matching", metavar="GLOB", help="with --keep: counts and deletes only versions like this, such as "

@@ -16,7 +16,7 @@ from indexctl.site.projects import find_projects
 from indexctl.units import counted
 
 
-@command("site", "writes pages for everybody into a folder: a list of all projects, and a page of each",
+@command("site",
          argument("folder", metavar="DIR", help="a folder that is empty, or has these pages"),
          argument("--url", metavar="URL", help="the address that people use, if it is not the one that is asked"),
          argument("--log", metavar="LOG", action="append",

@@ -8,16 +8,15 @@ import re
 import secrets
 import sys
 
-from indexctl.changes import Desk
 from indexctl.command_line import command
 from indexctl.commands.arguments import JSON
-from indexctl.ends import REFUSED, WRONG, Stop
+from indexctl.ends import WRONG, Stop
 from indexctl.names import sha256
 from indexctl.settings import TOKEN, read_profiles, without_password
 from indexctl.terminal import listing, put, texts
 
 
-@command("token new", "makes a token, and prints it once with its digest", JSON)
+@command("token new", JSON)
 def token_new(args: argparse.Namespace) -> None:
     """Keep the token yourself, in a file of mode 0600. Give the office the digest alone."""
     token = secrets.token_hex(32)
@@ -27,7 +26,7 @@ def token_new(args: argparse.Namespace) -> None:
         put(f"token   {token}\ndigest  {sha256(token)}")
 
 
-@command("token digest", "prints the digest of a token that is typed or piped in", JSON)
+@command("token digest", JSON)
 def token_digest(args: argparse.Namespace) -> None:
     """The token is never a word of a command, since other users of the machine see those."""
     try:
@@ -39,20 +38,7 @@ def token_digest(args: argparse.Namespace) -> None:
     put(json.dumps({"digest": sha256(token)}) if args.json else sha256(token))
 
 
-@command("token check", "says which index you ask, and whether your token is known there", JSON)
-def token_check(args: argparse.Namespace) -> int:
-    """Nothing is changed by it."""
-    desk = Desk(args)
-    caller = desk.caller()
-    if caller == "unknown":
-        raise Stop(WRONG, f"{desk.setting.url} leads to several indexes, each with users of its own. Name each by an "
-                          "address of its own.")
-    row = {"url": desk.setting.url, "from": desk.setting.place, "token": desk.setting.source, "caller": caller}
-    listing(args, [row], texts("url", "from", "token", "caller"))
-    return REFUSED if caller == "nobody" else 0
-
-
-@command("profile", "lists the profiles of ~/.config/indexctl.ini", JSON)
+@command("profile", JSON)
 def profile(args: argparse.Namespace) -> None:
     """A profile is a section of that file:
 

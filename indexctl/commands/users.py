@@ -45,7 +45,7 @@ def give_token(desk: Desk, what: str, row: Row, token: Optional[str]) -> None:
         raise
 
 
-@command("user add", "adds users; each gets a new token, which is printed once (office)", USERS,
+@command("user add", USERS,
          argument("--office", action="store_true", help="makes it a user of the office, for good"), TOKEN_DIGEST, YES,
          JSON_LINES)
 def user_add(args: argparse.Namespace) -> int:
@@ -63,7 +63,7 @@ def user_add(args: argparse.Namespace) -> int:
     return desk.status()
 
 
-@command("user rotate", "gives a user another token at once (office)", USER, TOKEN_DIGEST, JSON_LINES)
+@command("user rotate", USER, TOKEN_DIGEST, JSON_LINES)
 def user_rotate(args: argparse.Namespace) -> int:
     """The old token ends at once. For a pipeline that must not stop, add a second user and let the two take turns."""
     check_users(args.user)
@@ -83,7 +83,7 @@ def check_not_own(desk: Desk, users: Sequence[str]) -> None:
                           f"{user}` for another token. Nothing was done.")
 
 
-@command("user lock", "gives users a token that nobody knows (office)", USERS, JSON_LINES)
+@command("user lock", USERS, JSON_LINES)
 def user_lock(args: argparse.Namespace) -> int:
     """The user stays, and owns what it owns. `user rotate` opens it again."""
     check_users(*args.users)
@@ -95,7 +95,7 @@ def user_lock(args: argparse.Namespace) -> int:
     return desk.status()
 
 
-@command("user leave", "passes a user's names to another, and locks the user (office)", USER,
+@command("user leave", USER,
          argument("--to", metavar="HEIR", help="who owns the names from now on; needed if the user owns one alone"),
          YES, JSON_LINES)
 def user_leave(args: argparse.Namespace) -> int:

@@ -24,7 +24,7 @@ from indexctl.units import counted, read_moment
 from indexctl.uploads import files_of, upload_file
 
 
-@command("upload", "uploads wheels and source archives",
+@command("upload",
          argument("paths", nargs="+", metavar="PATH",
                   help="a file, or a folder of which each .whl and .tar.gz is taken"),
          argument("--claim", action="store_true", help="claims a name that nobody holds"),
@@ -78,7 +78,7 @@ def tell_ended(desk: Desk, cases: Dict[str, Case], project: str) -> None:
              "more, take this user off its owners.", "yellow")
 
 
-@command("page", "writes the page of the office into a folder",
+@command("page",
          argument("folder", metavar="DIR", help="a folder that is there"),
          argument("--all", action="store_true", help="with the quotas of all names, and all owners"), JSON_LINES)
 def page(args: argparse.Namespace) -> None:
@@ -95,7 +95,7 @@ def page(args: argparse.Namespace) -> None:
              {"do": "page", "path": path, "names": len(found.owners), "cases": len(cases)})
 
 
-@command("replay", "asks again for the changes of a record, after a restore",
+@command("replay",
          argument("file", metavar="RECORD", help="a record of indexctl (INDEX_RECORD), or nginx's log of changes"),
          argument("--since", required=True, metavar="MOMENT",
               help="when the backup was made, such as 2026-11-24T03:15:00Z, or the name of the backup"),

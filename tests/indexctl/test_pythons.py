@@ -24,10 +24,9 @@ KEY_USAGE = "keyUsage=critical,keyCertSign,cRLSign"
 # a line of each command, with something at each place, is read; the number of commands is printed
 READS = """import sys
 sys.path.insert(0, sys.argv[1])
-from indexctl.commands import COMMANDS
-from indexctl.command_line import parsers
-top, made = parsers(COMMANDS)
-for it in COMMANDS:
+from indexctl.command_line import load, parsers
+top, made = parsers(load())
+for it in load():
     words, behind = it.path.split(), []
     for given in it.arguments:
         if given.is_option and given.settings.get("required"):

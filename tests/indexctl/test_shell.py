@@ -122,7 +122,7 @@ def test_pages_have_commands_that_are_there_with_options_that_they_take(help_of,
 
 def path_of(words):
     """The words that name a command: the first, and the second if that is a verb's place."""
-    is_alone = words[0] in {it.path for it in COMMANDS} or len(words) == 1 or not re.fullmatch("[a-z]+", words[1])
+    is_alone = words[0] in {path for path, _, _ in COMMANDS} or len(words) == 1 or not re.fullmatch("[a-z]+", words[1])
     return tuple(words[:1 if is_alone else 2])
 
 

@@ -79,7 +79,7 @@ def test_releases_are_those_that_begin_so():
 
 def test_the_script_is_printed_or_what_the_index_has(monkeypatch, capsys):
     monkeypatch.setattr(completion, "found_in_time", lambda it: [it.kind, "b"])
-    for words, told in (([], completion.script_of(completion.COMMANDS)), (["who", "a"], "NAME\nb\n"),
+    for words, told in (([], completion.script_of(completion.load())), (["who", "a"], "NAME\nb\n"),
                         (["upload", "a"], ""), (["case", "list", "a"], ""),
                         (["case", "attempt", "p"], "NAME\nb\n"),
                         (["case", "attempt", "a", "p"], "NAME\nb\nprofile\npages\n")):

@@ -4,7 +4,7 @@ from __future__ import annotations
 import json
 
 import pytest
-from indexctl.command_line import COMMANDS
+from indexctl.command_line import load
 from indexctl.ends import REFUSED, UNREACHED, Stop
 from support.indexctl.rows import held
 from support.unit import raises
@@ -14,7 +14,7 @@ WITHOUT = {"help", "completion", "man"}
 TOKEN = 64
 
 
-@pytest.mark.parametrize("it", [it for it in COMMANDS if it.path not in WITHOUT], ids=lambda it: it.path)
+@pytest.mark.parametrize("it", [it for it in load() if it.path not in WITHOUT], ids=lambda it: it.path)
 def test_each_command_prints_json(it):
     assert "--json" in [name for given in it.arguments for name in given.names]
 

@@ -14,7 +14,7 @@ from support.unit import calls, raises
 def run(monkeypatch, function):
     """The status of a run whose command is this function."""
     args = types.SimpleNamespace(function=function)
-    calls(monkeypatch, main, "parsers", [types.SimpleNamespace(parse_args=lambda: args)])
+    calls(monkeypatch, main, "parsed", args)
     return main.main()
 
 

@@ -2,12 +2,24 @@
 from __future__ import annotations
 
 import argparse
+import json
 import re
+import subprocess
+import sys
 
 import pytest
 from indexctl import command_line, shell
-from indexctl.command_line import Command, argument
+from indexctl.command_line import Command, argument, load, parsed, parsers
 from indexctl.commands import COMMANDS
+from support.places import TOP
+
+# the modules that a run with these words has loaded
+LOADS = """import atexit, json, sys
+atexit.register(lambda: print(json.dumps(sorted(sys.modules)), file=sys.stderr))
+from indexctl.main import main
+main()"""
+# each takes as long as the rest of a start, or longer
+SLOW = {"ssl", "http.client", "urllib.request", "email", "dataclasses", "zipfile", "tarfile", "asyncio"}
 
 
 @pytest.mark.parametrize("text, made", [
@@ -43,8 +55,8 @@ def test_a_summary_becomes_a_sentence():
 
 
 def test_each_command_is_parsed_with_its_function_and_the_common_defaults():
-    top, made = command_line.parsers(COMMANDS)
-    assert set(made) == {it.path for it in COMMANDS}
+    top, made = parsers(load())
+    assert [*made] == [path for path, _, _ in COMMANDS]
     args = top.parse_args(["case", "transfer", "frob", "--quiet"])
     assert (args.names, args.quiet, args.yes, args.json, args.again, args.profile) == (["frob"], True, False, False, 6,
                                                                                        None)
@@ -59,13 +71,13 @@ def test_each_command_is_parsed_with_its_function_and_the_common_defaults():
                                    ["case", "open", "x", "--kind", "y", "--contact", "a", "--work", "b", "--why", "c"]])
 def test_a_line_that_lacks_something_is_refused(words, capsys):
     with pytest.raises(SystemExit) as end:
-        command_line.parsers(COMMANDS)[0].parse_args(words)
+        parsed(words)
     assert end.value.code == 2 and "usage: indexctl" in capsys.readouterr().err
 
 
 def test_a_terminal_may_have_one_column(monkeypatch):
     monkeypatch.setenv("COLUMNS", "1")
-    assert "usage: indexctl" in command_line.parsers(COMMANDS)[0].format_help()
+    assert "usage: indexctl" in parsers(())[0].format_help()
 
 
 @pytest.mark.parametrize("columns, most", [(60, 58), (200, 100)])
@@ -75,3 +87,16 @@ def test_help_says_what_stands_where(monkeypatch, columns, most):
     assert re.findall(r"^(\S+):$", text, re.M) == ["environment", "files", "status"]
     assert most - 10 < max(map(len, text.splitlines())) <= most
     assert "\n  INDEX_URL               the address of the index" in text
+
+
+@pytest.mark.parametrize("words, own, slow", [
+    ("--help", [], set()), ("--version", [], set()), ("case --help", [], set()), ("version", ["helps"], set()),
+    ("token new", ["tokens"], {"dataclasses"}), ("profile", ["tokens"], {"dataclasses"})])
+def test_a_start_loads_the_command_that_is_called_and_what_that_needs(words, own, slow, tmp_path):
+    ended = subprocess.run([sys.executable, "-S", "-B", "-c", LOADS, *words.split()], cwd=TOP, text=True, timeout=60,
+                           env={"HOME": str(tmp_path), "PYTHONPATH": TOP}, check=True, stdout=subprocess.PIPE,
+                           stderr=subprocess.PIPE)
+    loaded = json.loads(ended.stderr.splitlines()[-1])
+    begin = "indexctl.commands."
+    assert [it[len(begin):] for it in loaded if it.startswith(begin)] == sorted([*own, *["arguments"] * bool(own)])
+    assert SLOW & set(loaded) == slow

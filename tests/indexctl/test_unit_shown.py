@@ -6,7 +6,7 @@ import sys
 import types
 
 import pytest
-from indexctl import commands
+from indexctl.commands import cases, tokens
 from indexctl.contents import FileRow
 from indexctl.ends import REFUSED, WRONG, Stop
 from indexctl.names import sha256
@@ -54,7 +54,7 @@ def test_tables_say_it_in_words(run, capsys):
 @pytest.mark.parametrize("words", [("case", "list"), ("case", "show", "a")])
 def test_moments_are_whole_seconds(run, capsys, monkeypatch, words):
     run.names, run.desk.is_caller = [held("a", case=case_of(first=None))], "user"
-    monkeypatch.setattr(commands.cases, "time", types.SimpleNamespace(time=lambda: OPENED + 0.9))
+    monkeypatch.setattr(cases, "time", types.SimpleNamespace(time=lambda: OPENED + 0.9))
     run(*words, "--json")
     found = rows_of(capsys)
     assert [it["earliest"] for it in (found if words[1] == "list" else [found])] == [OPENED + SIX_WEEKS]
@@ -62,7 +62,7 @@ def test_moments_are_whole_seconds(run, capsys, monkeypatch, words):
 
 def test_a_profile_is_shown_without_its_password_or_without_an_address(run, capsys, monkeypatch):
     profiles = {"a": {"url": "https://me:secret@x"}, "b": {"ca": "c"}}
-    monkeypatch.setattr(commands.tokens, "read_profiles", lambda: profiles)
+    monkeypatch.setattr(tokens, "read_profiles", lambda: profiles)
     run("profile", "--json")
     assert rows_of(capsys) == [{"profile": "a", "url": "https://..@x"}, {"profile": "b", "ca": "c", "url": ""}]
 
@@ -120,7 +120,7 @@ def test_a_new_token_is_64_digits_with_its_digest(run, capsys):
 @pytest.mark.parametrize("given", [EOFError(), UnicodeDecodeError("utf-8", b"\xff", 0, 1, "invalid start byte")])
 def test_a_token_that_nobody_types_or_that_is_no_text_has_no_digest(run, capsys, monkeypatch, given):
     monkeypatch.setattr(sys, "stdin", types.SimpleNamespace(isatty=lambda: True))
-    monkeypatch.setattr(commands.tokens.getpass, "getpass", raises(given))
+    monkeypatch.setattr(tokens.getpass, "getpass", raises(given))
     with pytest.raises(Stop, match="Type or pipe in one line of plain characters") as end:
         run("token", "digest")
     assert end.value.status == WRONG and not capsys.readouterr().out

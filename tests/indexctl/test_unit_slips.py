@@ -5,8 +5,7 @@ import json
 
 import pytest
 from indexctl.about import VERSION
-from indexctl.command_line import parsers
-from indexctl.commands import COMMANDS
+from indexctl.command_line import parsed
 from indexctl.ends import WRONG, Stop
 from support.indexctl.rows import held
 
@@ -22,7 +21,7 @@ from support.indexctl.rows import held
     ("download x", "`python3 -m pip download`?"), ("install x", "`python3 -m pip install`?")])
 def test_a_command_that_is_none_is_answered_by_one_that_is(capsys, words, said):
     with pytest.raises(SystemExit) as end:
-        parsers(COMMANDS)[0].parse_args(words.split())
+        parsed(words.split())
     told = capsys.readouterr().err
     assert end.value.code == 2 and "invalid choice" in told and told.endswith(f" Did you mean {said}\n"), told
 
@@ -35,7 +34,7 @@ def test_a_command_that_is_none_is_answered_by_one_that_is(capsys, words, said):
     ("upload -u ann -p x", "a token. The token stands in INDEX_TOKEN, or in the file that the profile names.")])
 def test_an_option_that_is_none_is_told_by_the_command_s_own_usage(capsys, words, said):
     with pytest.raises(SystemExit) as end:
-        parsers(COMMANDS)[0].parse_args(words.split())
+        parsed(words.split())
     told = capsys.readouterr().err
     assert end.value.code == 2 and told.startswith("usage: indexctl upload [-h]") and told.endswith(f"{said}\n"), told
 
@@ -44,14 +43,14 @@ def test_an_option_that_is_none_is_told_by_the_command_s_own_usage(capsys, words
     ("release yank frob --reason x 1.0", {"name": "frob", "releases": ["1.0"]}),
     ("files frob --json spam ham", {"names": ["frob", "spam", "ham"]})])
 def test_further_words_may_stand_behind_an_option(words, found):
-    args = vars(parsers(COMMANDS)[0].parse_args(words.split()))
+    args = vars(parsed(words.split()))
     assert {key: args[key] for key in found} == found
 
 
 @pytest.mark.parametrize("words", ["names frob", "status a b", "whoami x", "owner add a b --x", "help --x"])
 def test_a_word_too_much_is_refused(capsys, words):
     with pytest.raises(SystemExit) as end:
-        parsers(COMMANDS)[0].parse_args(words.split())
+        parsed(words.split())
     assert end.value.code == 2 and "unrecognized arguments" in capsys.readouterr().err
 
 
@@ -59,7 +58,7 @@ def test_a_word_too_much_is_refused(capsys, words):
                                          ("whoami --json", "token check --json")])
 def test_a_word_that_people_know_is_the_command(alias, path):
     def said(words):
-        found = vars(parsers(COMMANDS)[0].parse_args(words.split()))
+        found = vars(parsed(words.split()))
         return {key: found[key] for key in found if key not in ("noun", "verb", "parser")}
     assert said(alias) == said(path)
 
@@ -99,14 +98,14 @@ def test_a_search_for_a_misspelt_name_finds_what_was_meant(run, capsys):
 @pytest.mark.parametrize("words", ["strawberry", "case attempt x nobody", "who", "user frobnicate x"])
 def test_what_is_near_to_nothing_gets_no_question(capsys, words):
     with pytest.raises(SystemExit):
-        parsers(COMMANDS)[0].parse_args(words.split())
+        parsed(words.split())
     assert "Did you mean" not in capsys.readouterr().err
 
 
 @pytest.mark.parametrize("words", ["--profile p --again 2 who x", "who --profile p x --again 2",
                                    "--profile other --again 5 who x --profile p --again 2"])
 def test_the_options_of_all_commands_stand_before_or_behind(words):
-    args = parsers(COMMANDS)[0].parse_args(words.split())
+    args = parsed(words.split())
     assert (args.profile, args.again) == ("p", 2)
 
 

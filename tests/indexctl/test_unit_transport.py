@@ -81,8 +81,8 @@ def test_the_help_says_how_long_an_index_that_is_away_is_tried(trial):
         taken.append(sum(one.pauses) + 7 * waits)
     assert 28 <= taken[0] <= 32 and 85 <= taken[1] <= 92, taken
     assert "6, for half a minute, or a minute and a half if nginx waits" in AGAIN
-    help_ = re.sub(r"\s+", " ", command_line.parsers(command_line.COMMANDS)[0].format_help())
-    assert AGAIN in help_ and command_line.parsers(command_line.COMMANDS)[0].get_default("again") == 6
+    help_ = re.sub(r"\s+", " ", command_line.parsers(())[0].format_help())
+    assert AGAIN in help_ and command_line.parsers(())[0].get_default("again") == 6
 
 
 def test_none_is_asked_again_if_that_was_asked_for(trial):

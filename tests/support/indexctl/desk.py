@@ -3,8 +3,7 @@ from __future__ import annotations
 
 import importlib
 
-from indexctl.command_line import parsers
-from indexctl.commands import COMMANDS
+from indexctl.command_line import parsed
 from indexctl.ends import REFUSED
 from indexctl.standings import Standing
 from indexctl.terminal import say_row
@@ -12,7 +11,7 @@ from indexctl.terminal import say_row
 from support.indexctl.rows import SETTING
 
 MODULES = [importlib.import_module(f"indexctl.commands.{it}") for it in (
-    "tokens", "users", "names", "files", "releases", "listings", "contents", "cases", "work")]
+    "tokens", "checks", "users", "names", "files", "releases", "listings", "contents", "cases", "work")]
 FREE = Standing("free", "free", given={"name": "free", "state": "free"})
 
 
@@ -86,7 +85,7 @@ class Run:
         return next((it for it in self.names if it.name == name), FREE)
 
     def __call__(self, *words):
-        args = parsers(COMMANDS)[0].parse_args(words)
+        args = parsed(words)
         return args.function(args) or 0
 
     def asked(self, *words):
