@@ -19,7 +19,7 @@ HERE = Path(__file__).resolve().parent
 TIME = (1980, 1, 1, 0, 0, 0)
 SHARED = HERE.parent / "server/lib/package_index"
 MAIN = "import sys\n\nfrom indexctl.main import main\n\nsys.exit(main())\n"
-TAKEN = ("__init__.py", "changes.py", "hints.py", "log_place.py", "names.py")
+TAKEN = ("__init__.py", "changes.py", "hints.py", "log_place.py", "names.py", "shown.py")
 LEFT_OUT = ("__main__.py", "build.py")
 SUFFIXES = (".py", ".html", ".css", ".js", ".svg")
 

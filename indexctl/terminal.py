@@ -10,9 +10,10 @@ import textwrap
 import threading
 import time
 from contextlib import suppress
-from typing import Any, Callable, ClassVar, Dict, Mapping, Optional, Sequence, TextIO
+from typing import Any, Callable, ClassVar, Dict, Iterable, Iterator, Mapping, Optional, Sequence, TextIO
 
 from indexctl.ends import WRONG, Stop
+from package_index.shown import MIB, how_far
 
 Columns = Dict[str, Callable[[Any], str]]
 COLOURS = {"bold": "1", "dim": "2", "red": "31", "yellow": "33"}
@@ -39,8 +40,9 @@ class Progress:
     drawn: ClassVar[Optional[Progress]] = None
     lock: ClassVar[threading.Lock] = threading.Lock()
 
-    def __init__(self, what: str, total: int) -> None:
-        self.what, self.total, self.done, self.last = what, total, 0, 0.0
+    def __init__(self, what: str, total: int, is_bytes: bool = False) -> None:
+        self.what, self.total, self.done, self.last, self.is_bytes = what, total, 0, 0.0, is_bytes
+        self.begun = time.monotonic()
         self.is_watched = sys.stderr.isatty() and os.environ.get("TERM") != "dumb"
 
     def __enter__(self) -> Progress:
@@ -49,19 +51,28 @@ class Progress:
     def __exit__(self, *_: object) -> None:
         self.clear()
 
-    def text(self) -> str:
-        return f"{self.what}: {self.done} of {self.total}, {100 * self.done // max(1, self.total)} %"
-
     def step(self, count: int = 1) -> None:
         self.done += count
         now = time.monotonic()
-        if not self.is_watched or now - self.last < SECONDS_BETWEEN_DRAWINGS:
-            return
-        self.last = now
-        with Progress.lock:
-            text = self.text()[:shutil.get_terminal_size().columns - 1]
-            print(f"\r{text}\033[K", end="", file=sys.stderr, flush=True)
-            Progress.drawn = self
+        if now - self.last >= SECONDS_BETWEEN_DRAWINGS:
+            self.last = now
+            self.draw(how_far(self.what, self.done, self.total, now - self.begun, self.is_bytes))
+
+    def draw(self, text: str) -> None:
+        if self.is_watched:
+            with Progress.lock:
+                text = text[:shutil.get_terminal_size().columns - 1]
+                print(f"\r{text}\033[K", end="", file=sys.stderr, flush=True)
+                Progress.drawn = self
+
+    def sent(self, pieces: Iterable[bytes]) -> Iterator[bytes]:
+        """The pieces of a body, each counted once it went out. The line then stays until the index has answered, which
+        it does once it has them all on its disk."""
+        self.done, self.begun = 0, time.monotonic()
+        for piece in pieces:
+            yield piece
+            self.step(len(piece))
+        self.draw(f"{self.what}: {self.total / MIB:.1f} MiB sent, waiting for the index")
 
     @staticmethod
     def clear() -> None:

@@ -76,12 +76,9 @@ class File:
         return data
 
     def pieces(self) -> Iterator[bytes]:
-        """The bytes in pieces, with the part that went out on a terminal."""
         data = self.checked()
-        with Progress(self.name, self.size) as progress:
-            for at in range(0, len(data), PIECE):
-                yield data[at:at + PIECE]
-                progress.step(len(data[at:at + PIECE]))
+        for at in range(0, len(data), PIECE):
+            yield data[at:at + PIECE]
 
 
 def files_in(folder: str) -> List[str]:
@@ -106,13 +103,21 @@ def read_file(path: str) -> File:
         raise Stop(WRONG, f"{path}: it can't be read: {getattr(end, 'strerror', None) or end}") from end
 
 
+def read_files(paths: Sequence[str]) -> Iterator[File]:
+    """These files, with how many were read on a terminal."""
+    with Progress("files that are checked", len(paths)) as progress:
+        for path in paths:
+            yield read_file(path)
+            progress.step()
+
+
 def files_of(paths: Sequence[str]) -> List[File]:
     """The files of these paths, wheels first. Nothing has gone out as long as this can fail."""
     for path in paths:
         if not os.path.exists(path):
             raise Stop(WRONG, f"{path}: there is no such file or folder.")
     found = [it for path in paths for it in (files_in(path) if os.path.isdir(path) else [path])]
-    return sorted(map(read_file, found), key=lambda it: (not it.is_wheel, it.name))
+    return sorted(read_files(found), key=lambda it: (not it.is_wheel, it.name))
 
 
 def upload_of(file: File, pieces: Callable[[], Iterable[bytes]]) -> Tuple[Dict[str, object], Request]:
@@ -124,13 +129,14 @@ def upload_of(file: File, pieces: Callable[[], Iterable[bytes]]) -> Tuple[Dict[s
 
 def upload_file(desk: Desk, file: File, claims: bool) -> bool:
     """Uploads one file, and claims its name first if nobody holds it and `claims` is set. Gives whether it is there."""
-    row, request = upload_of(file, file.pieces)
     begun = time.monotonic()
-    status, answer = desk.send(file.name, row, request)
-    if answer == "NoProject" and claims:
-        if not desk.change(f"claim {file.shown}", {"do": "claim", "name": file.shown}):
-            return False
+    with Progress(file.name, file.size, is_bytes=True) as progress:
+        row, request = upload_of(file, lambda: progress.sent(file.pieces()))
         status, answer = desk.send(file.name, row, request)
+        if answer == "NoProject" and claims:
+            if not desk.change(f"claim {file.shown}", {"do": "claim", "name": file.shown}):
+                return False
+            status, answer = desk.send(file.name, row, request)
     if status not in (200, 201):
         return desk.tell(file.name, row, status, answer)
     is_new = "uploaded" if status == 201 else "is there already"

@@ -12,7 +12,7 @@ from dataclasses import dataclass, field
 from typing import Any, Dict, List, Sequence, Tuple
 
 from indexctl.ends import WRONG, Stop
-from indexctl.moving.imports import Owners, Rate, read_owners
+from indexctl.moving.imports import Owners, read_owners
 from indexctl.moving.items import Left, digest_in
 from indexctl.moving.pool import at_once
 from indexctl.moving.trees import PAGE, SHOWN
@@ -90,7 +90,7 @@ class Export:
 
     def write_files(self, pages: Sequence[Page]) -> None:
         todo = [(page, row) for page in pages for row in page.rows]
-        with Rate("files", len(todo)) as progress:
+        with Progress("files", len(todo)) as progress:
             for file, outcome in at_once(self.write_file, todo, self.stopped):
                 progress.step()
                 self.report.written += outcome == "written"

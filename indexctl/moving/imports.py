@@ -3,7 +3,6 @@ from __future__ import annotations
 
 import csv
 import threading
-import time
 from dataclasses import dataclass, field
 from typing import Callable, Dict, Iterator, List, Sequence, Tuple
 
@@ -31,18 +30,6 @@ class Report:
     left: List[Left] = field(default_factory=list)
 
 
-class Rate(Progress):
-    """A line that moves, with how many files a second were done."""
-
-    def __init__(self, what: str, total: int) -> None:
-        super().__init__(what, total)
-        self.begun = time.monotonic()
-
-    def text(self) -> str:
-        rate = self.done / max(0.001, time.monotonic() - self.begun)
-        return f"{super().text()}, {rate:.0f} a second"
-
-
 class Import:
     """The import of what was found at a source. `is_dry` looks at all, and changes nothing."""
 
@@ -68,7 +55,7 @@ class Import:
         todo = [(target, item) for target in self.targets for item in target.project.items]
         counts = {target.name: {"": len(target.project.items), IMPORTED: 0, THERE: 0, LEFT: 0}
                   for target in self.targets}
-        with Rate("files", len(todo)) as progress:
+        with Progress("files", len(todo)) as progress:
             for target, outcome in at_once(self.bring, todo, self.stopped):
                 progress.step()
                 count = counts[target.name]

@@ -69,7 +69,7 @@ def test_it_holds_what_it_runs_and_no_more(one_file):
     assert names == sorted(names)
     assert {"__main__.py", "indexctl/page.css", "indexctl/main.py", "package_index/names.py"} <= set(names)
     assert {it for it in names if it.startswith("package_index/")} == {
-        f"package_index/{it}.py" for it in ("__init__", "changes", "hints", "log_place", "names")}
+        f"package_index/{it}.py" for it in ("__init__", "changes", "hints", "log_place", "names", "shown")}
     assert "indexctl/build.py" not in names and not [it for it in names if "__pycache__" in it]
 
 

@@ -83,6 +83,25 @@ def test_a_line_stands_where_progress_stood(monkeypatch, told):
     assert stream.getvalue() == "\rnames: 1 of 3, 33 %\033[K\r\033[Kb\n"
 
 
+def test_what_is_sent_is_counted_in_mib_and_then_waited_for(monkeypatch):
+    stream, clock = Tty(), Clock(monkeypatch)
+    monkeypatch.setattr(sys, "stderr", stream)
+    monkeypatch.setenv("COLUMNS", "80")
+    pieces = [bytes(1 << 20), bytes(1 << 20), bytes(1 << 19)]
+    with terminal.Progress("x.whl", 5 << 19, is_bytes=True) as progress:
+        # the second trial of a request begins anew
+        for _ in range(2):
+            for piece in progress.sent(pieces):
+                clock.now += len(piece) / (1 << 19)
+            assert stream.seen[-1].endswith("\rx.whl: 2.5 MiB sent, waiting for the index\033[K")
+    drawn = stream.seen[-1].split("\033[K")[:4]
+    assert drawn == ["\rx.whl: 1.0 of 2.5 MiB, 40 %, 0.5 MiB a second, 0:03 left",
+                     "\rx.whl: 2.0 of 2.5 MiB, 80 %, 0.5 MiB a second, 0:01 left",
+                     "\rx.whl: 2.5 of 2.5 MiB, 100 %, 0.5 MiB a second, 0:00 left",
+                     "\rx.whl: 2.5 MiB sent, waiting for the index"]
+    assert stream.seen[-1].split("\033[K")[4:8] == drawn and stream.seen[-1].endswith("\r\033[K")
+
+
 def test_progress_fits_the_terminal_and_counts_nothing_as_nothing(monkeypatch):
     stream, _ = Tty(), Clock(monkeypatch)
     monkeypatch.setattr(sys, "stderr", stream)

@@ -271,6 +271,32 @@ def test_a_file_that_is_there_already_is_no_error(tmp_path, capsys, status, said
     assert f": {said}, " in capsys.readouterr().out
 
 
+def test_an_upload_shows_on_a_terminal_how_far_it_is(tmp_path, monkeypatch, capsys):
+    """Each trial, of which the first may break off."""
+    class Sends(FakeDesk):
+        def send(self, what, row, request):
+            assert b"".join(request.pieces()) == file.read()
+            return super().send(what, row, request)
+    monkeypatch.setattr("sys.stderr.isatty", lambda: True)
+    monkeypatch.setenv("TERM", "xterm")
+    monkeypatch.setenv("COLUMNS", "90")
+    file = File(wheel(tmp_path, size=3 << 20))
+    assert uploads.upload_file(Sends((404, "NoProject"), (201, "x")), file, True)
+    out = capsys.readouterr()
+    waits = f"{file.name}: 3.0 MiB sent, waiting for the index"
+    assert out.err.count(waits) == 2 and " of 3.0 MiB, " in out.err and out.err.endswith("\r\033[K")
+    assert out.out.startswith(f"{file.name}: uploaded")
+
+
+def test_a_check_of_many_files_shows_how_far_it_is(tmp_path, monkeypatch, capsys):
+    for at in range(3):
+        wheel(tmp_path, f"frob-1.{at}-py3-none-any.whl", TEXT.replace("1.0", f"1.{at}"))
+    monkeypatch.setattr("sys.stderr.isatty", lambda: True)
+    monkeypatch.setenv("TERM", "xterm")
+    assert len(uploads.files_of([str(tmp_path)])) == 3
+    assert capsys.readouterr().err.startswith("\rfiles that are checked: 1 of 3, 33 %")
+
+
 def test_a_name_is_claimed_if_that_was_asked_for(tmp_path):
     desk = FakeDesk((404, "NoProject"), (201, "accepted"))
     assert uploads.upload_file(desk, File(wheel(tmp_path)), True)

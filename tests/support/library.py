@@ -30,6 +30,7 @@ from package_index import (
     passes,
     publishers,
     replies,
+    shown,
     tallies,
     two_machines,
     units,
@@ -38,4 +39,4 @@ from package_index import (
 
 __all__ = ["cache", "changes", "commands", "copies", "counted", "database", "disk", "ends", "exchange", "exposition",
            "followed", "forms", "front", "fronts", "grown", "hints", "log_place", "looks", "names", "passes",
-           "publishers", "replies", "tallies", "two_machines", "units", "watched"]
+           "publishers", "replies", "shown", "tallies", "two_machines", "units", "watched"]
