@@ -1,4 +1,5 @@
-"""Completion in bash: the script has the commands and their options, and asks for what the index has as you type."""
+"""Completion in bash, zsh and fish: the script has the commands and their options, and asks for what the index has as
+you type."""
 from __future__ import annotations
 
 import argparse
@@ -6,7 +7,7 @@ import re
 import threading
 from contextlib import suppress
 from dataclasses import dataclass
-from typing import Dict, List, Optional, Sequence
+from typing import Dict, List, Optional, Sequence, Set, Tuple
 
 from indexctl.command_line import ALIASES, Command, argument, command, load
 from indexctl.contents import find_contents, releases_of
@@ -17,36 +18,71 @@ from indexctl.terminal import put
 from indexctl.transport import Index
 from package_index.names import normal
 
-SCRIPT = """# bash completion for indexctl, made by `indexctl completion bash`
-_indexctl() {
-    local word=${COMP_WORDS[COMP_CWORD]} path="" at
+BASH = """# completion for indexctl, made by `indexctl completion @SHELL@`
+@BEGIN@_indexctl() {
+    # (zsh knows `path` and `words` as its own)
+    local word=${COMP_WORDS[COMP_CWORD]} called="" IFS=$' \\t\\n' at
     for ((at = 1; at < COMP_CWORD; at++)); do
         case ${COMP_WORDS[at]} in -*) continue ;; esac
-        case "$path ${COMP_WORDS[at]}" in
+        case "$called ${COMP_WORDS[at]}" in
 @PATHS@            *) break ;;
         esac
-        path="$path ${COMP_WORDS[at]}"
+        called="$called ${COMP_WORDS[at]}"
     done
-    local words="" asks=""
-    case "$path" in
+    local offers="" asks=""
+    case "$called" in
 @AFTER@    esac
     COMPREPLY=()
     if [[ -n $asks && $word != -* ]]; then
-        mapfile -t COMPREPLY < <("${COMP_WORDS[0]/#\\~/$HOME}" completion bash -- \\
-            "${COMP_WORDS[@]:1:COMP_CWORD}" 2> /dev/null)
+        COMPREPLY=($("${COMP_WORDS[0]/#\\~/$HOME}" completion @SHELL@ -- "${COMP_WORDS[@]:1:$COMP_CWORD}" 2> /dev/null))
     fi
     if [[ ${#COMPREPLY[@]} = 0 ]]; then
-        mapfile -t COMPREPLY < <(compgen -W "$words" -- "$word")
+        COMPREPLY=($(compgen -W "$offers" -- "$word"))
     fi
 }
 complete -o default -F _indexctl indexctl
 """
+ZSH = """(( $+functions[compdef] )) || { autoload -U compinit && compinit; }
+autoload -U bashcompinit && bashcompinit
+"""
+FISH = """# completion for indexctl, made by `indexctl completion fish`
+function __indexctl
+    set -l before (commandline -opc)
+    set -l tool (string replace -r "^~" "$HOME" $before[1])
+    set -l word (commandline -ct)
+    set -l called ""
+    for it in $before[2..-1]
+        string match -q -- "-*" $it; and continue
+        switch "$called $it"
+@PATHS@            case "*"
+                break
+        end
+        set called "$called $it"
+    end
+    set -l offers
+    set -l asks
+    switch "$called"
+@AFTER@    end
+    set -l found
+    if set -q asks[1]; and not string match -q -- "-*" $word
+        set found ($tool completion fish -- $before[2..-1] $word 2> /dev/null)
+    end
+    set -q found[1]; or set found (string match -- "$word*" $offers)
+    if set -q found[1]
+        printf "%s\\n" $found
+    else
+        __fish_complete_path $word
+    end
+end
+complete -c indexctl -k -f -a "(__indexctl)"
+"""
+SHELLS = ("bash", "zsh", "fish")
 # what each command takes beside its own arguments
 COMMON_OPTIONS = ("--help", "--profile", "--again")
 WITH_VALUE = {"--profile", "--again"}
 # a person waits for no answer longer than so many seconds, and reads no longer list of files
 PATIENCE, MOST_PROJECTS = 1.0, 8
-# bash takes such a text as it is: what else a server gives may be a command
+# a shell takes such a text as it is: what else a server gives may be a command
 PLAIN = re.compile("[A-Za-z0-9._+-]+")
 
 
@@ -68,8 +104,9 @@ def completed(it: Command) -> List[str]:
     return [*choices, *COMMON_OPTIONS, *options]
 
 
-def script_of(commands: Sequence[Command]) -> str:
-    """The script that completes these commands."""
+def offers_of(commands: Sequence[Command]) -> Tuple[Dict[str, List[str]], Set[str]]:
+    """What may follow each of these commands, each beginning of one and the name of the program; and those behind which
+    the index is asked."""
     after: Dict[str, List[str]] = {"": ["--help", "--version"]}
     for it in commands:
         noun, _, verb = it.path.rpartition(" ")
@@ -84,10 +121,23 @@ def script_of(commands: Sequence[Command]) -> str:
             after[""].append(alias)
             after[alias] = after[path]
             asking |= {alias} if path in asking else set()
+    return after, asking
+
+
+def script_of(commands: Sequence[Command], shell: str) -> str:
+    """The script that completes these commands in this shell. zsh runs that of bash."""
+    after, asking = offers_of(commands)
+    if shell == "fish":
+        paths = "".join(f'            case " {path}"\n' for path in after if path)
+        lines = "".join(f'        case "{path and f" {path}"}"\n            set offers {" ".join(words)}\n'
+                        + "            set asks yes\n" * (path in asking) for path, words in after.items())
+        return FISH.replace("@PATHS@", paths).replace("@AFTER@", lines)
     paths = "".join(f'            " {path}") ;;\n' for path in after if path)
-    lines = "".join(f'        "{f" {path}" if path else ""}") words="{" ".join(words)}"'
+    lines = "".join(f'        "{path and f" {path}"}") offers="{" ".join(words)}"'
                     f'{" asks=yes" if path in asking else ""} ;;\n' for path, words in after.items())
-    return SCRIPT.replace("@PATHS@", paths).replace("@AFTER@", lines)
+    begin = ZSH if shell == "zsh" else ""
+    script = BASH.replace("@BEGIN@", begin).replace("@SHELL@", shell)
+    return script.replace("@PATHS@", paths).replace("@AFTER@", lines)
 
 
 def read_line(words: Sequence[str]) -> Optional[Line]:
@@ -158,15 +208,16 @@ def found_in_time(line: Line) -> List[str]:
     return [] if looking.is_alive() else [it for it in found if PLAIN.fullmatch(it) and it not in line.given]
 
 
-@command("completion", argument("shell", choices=("bash",), metavar="bash"),
+@command("completion", argument("shell", choices=SHELLS, metavar="SHELL", help="bash, zsh or fish"),
          argument("words", nargs="*", metavar="WORD",
                   help="the words of a command line behind `--`, of which the last is typed: prints what the index has "
                        "for it"))
 def completion(args: argparse.Namespace) -> None:
-    """Put it where your shell finds it, as into ~/.local/share/bash-completion/completions/indexctl. It completes
+    """Put it where your shell finds it: for bash into ~/.local/share/bash-completion/completions/indexctl, for fish
+    into ~/.config/fish/completions/indexctl.fish, and for zsh into a file that your ~/.zshrc sources. It completes
     names, files and releases from the index."""
     if not args.words:
-        put(script_of(load()), end="")
+        put(script_of(load(), args.shell), end="")
         return
     line = read_line(args.words)
     if line and line.kind in FINDERS:

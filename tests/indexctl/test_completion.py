@@ -1,4 +1,4 @@
-"""Completion in bash: commands by the script alone, and names, files and releases from the index."""
+"""Completion in bash, zsh and fish: commands by the script alone, and names, files and releases from the index."""
 from __future__ import annotations
 
 import os
@@ -10,10 +10,22 @@ import sys
 import pytest
 from support.indexctl.control import Control, environment
 from support.indexctl.scripted import always, as_json, scripted
+from support.needed import want_command
 from support.places import TOP
 from support.serving import Index, accepted
 
 pytestmark = pytest.mark.xdist_group("completion")
+# has zsh complete a line at once, and keeps what it offers of what the script found
+ZSHRC = """compadd() {
+    local -a offered
+    builtin compadd -O offered "$@"
+    local status_of=$?
+    [[ $funcstack[2] = _bash_complete && -n $offered ]] && print -rl -- $offered >> ~/offered
+    return $status_of
+}
+zle-line-init() { BUFFER=$TYPED CURSOR=$#TYPED; zle expand-or-complete; BUFFER=exit; zle accept-line; }
+zle -N zle-line-init
+"""
 # the tool, which waits longer for an index if that is asked for: on a busy machine one may need more than a second
 TOOL = f"""#!{sys.executable} -S
 import os, sys
@@ -47,37 +59,57 @@ BY_INDEX = {"names": (["who", "fro"], ["frob", "frost-bite"]), "a_name": (["file
             "no_value": (["who", "--again", "fro"], [])}
 
 
-@pytest.fixture(scope="module")
-def bash(shared_folder):
-    """bash with the script, and `indexctl` on its PATH, with no token."""
-    return Bash(Control(shared_folder, None, INDEX_TOKEN=None))
+@pytest.fixture(scope="module", params=["bash", "zsh", "fish"])
+def shell(request, shared_folder):
+    """A shell with the script, and `indexctl` on its PATH, with no token."""
+    want_command(request.param, request.param)
+    return Shell(request.param, Control(f"{shared_folder}/{request.param}", None, INDEX_TOKEN=None))
 
 
-class Bash:
+class Shell:
     """What a shell offers, for an index at an address."""
 
-    def __init__(self, by: Control) -> None:
-        self.folder, self.script = by.home, by.run("completion", "bash").stdout
+    def __init__(self, name: str, by: Control) -> None:
+        self.name, self.folder, self.script = name, by.home, by.run("completion", name).stdout
         with open(f"{self.folder}/indexctl", "w", encoding="utf-8") as made:
             made.write(TOOL)
         os.chmod(made.name, 0o755)
+        with open(f"{self.folder}/.zshrc", "w", encoding="utf-8") as made:
+            made.write(f"{self.script}\n{ZSHRC}")
 
     def offers(self, words, **setting):
         """What it offers for the last of these words. It says nothing else."""
-        listed = " ".join(f"'{it}'" for it in ("indexctl", *words))
-        text = (f"{self.script}\nCOMP_WORDS=({listed}); COMP_CWORD={len(words)}; _indexctl; "
-                "printf '%s\\n' \"${COMPREPLY[@]}\"")
         path = f"{self.folder}:{os.environ['PATH']}"
-        ended = subprocess.run(["bash", "-c", text], stdout=subprocess.PIPE, stderr=subprocess.PIPE, timeout=60,
-                               text=True, env=environment(PATH=path, HOME=self.folder, **setting))
+        env = environment(PATH=path, HOME=self.folder, TERM="xterm", **setting)
+        if self.name == "zsh":
+            return self.offers_on_terminal({**env, "TYPED": " ".join(("indexctl", *words))})
+        listed = " ".join(f"'{it}'" for it in ("indexctl", *words))
+        asks = (f"COMP_WORDS=({listed}); COMP_CWORD={len(words)}; _indexctl; printf '%s\\n' \"${{COMPREPLY[@]}}\""
+                if self.name == "bash" else f'complete -C "{" ".join(("indexctl", *words))}"')
+        ended = subprocess.run([self.name, "-c", f"{self.script}\n{asks}"], stdout=subprocess.PIPE, text=True,
+                               stderr=subprocess.PIPE, timeout=60, cwd=self.folder, env=env)
         assert ended.stderr == "", ended.stderr
         return ended.stdout.split()
 
+    def offers_on_terminal(self, env):
+        """The same of zsh, which completes on a terminal alone."""
+        ours, its = pty.openpty()
+        with open(f"{self.folder}/offered", "w", encoding="utf-8"):
+            pass
+        try:
+            subprocess.run(["zsh", "-i"], stdin=its, stdout=its, stderr=its, cwd=self.folder, timeout=60, check=True,
+                           start_new_session=True, env=env)
+        finally:
+            os.close(ours)
+            os.close(its)
+        with open(f"{self.folder}/offered", encoding="utf-8") as kept:
+            return kept.read().split()
+
 
 @pytest.mark.parametrize("what", BY_SCRIPT)
-def test_bash_completes_commands_and_options(bash, what):
+def test_a_shell_completes_commands_and_options(shell, what):
     words, wanted = BY_SCRIPT[what]
-    assert wanted <= set(bash.offers(words))
+    assert wanted <= set(shell.offers(words))
 
 
 @pytest.fixture(scope="module")
@@ -93,26 +125,28 @@ def full_url(program):
 
 
 @pytest.mark.parametrize("what", BY_INDEX)
-def test_bash_completes_what_the_index_has(bash, full_url, what):
+def test_a_shell_completes_what_the_index_has(shell, full_url, what):
     words, wanted = BY_INDEX[what]
-    offered = [it for it in bash.offers(words, INDEX_URL=full_url, PATIENCE="30") if not it.startswith("--")]
+    # zsh passes over what does not begin as it was typed, such as another spelling
+    wanted = [it for it in wanted if shell.name != "zsh" or it.startswith(words[-1])]
+    offered = [it for it in shell.offers(words, INDEX_URL=full_url, PATIENCE="30") if not it.startswith("--")]
     assert offered == wanted
 
 
-def test_nothing_is_offered_and_nothing_said_if_the_index_does_not_answer(bash):
+def test_nothing_is_offered_and_nothing_said_if_the_index_does_not_answer(shell):
     """Also by one that takes the connection and says nothing: other commands wait for that for a minute and a half, and
     a shell has a minute here."""
     with socket.create_server(("127.0.0.1", 0)) as silent:
         url = f"http://127.0.0.1:{silent.getsockname()[1]}"
         for setting in ({"INDEX_URL": url}, {"INDEX_URL": "http://127.0.0.1:9"}, {"INDEX_URL": "no address"}, {},
                         {"INDEX_URL": url, "INDEX_TOKEN_FILE": "/none"}, {"INDEX_URL": "https://host.invalid"}):
-            assert bash.offers(["who", "fro"], **setting) == [], setting
+            assert shell.offers(["who", "fro"], **setting) == [], setting
 
 
-def test_no_text_of_a_server_becomes_a_command(bash):
+def test_no_text_of_a_server_becomes_a_command(shell):
     names = [{"name": it} for it in ("fro$(touch /tmp/x)", "fro`id`", "fro;id", "fro b", "frob", "fro'", "fro\n-x")]
     with scripted(always(*as_json({"meta": {}, "projects": names}))) as server:
-        assert bash.offers(["who", "fro"], INDEX_URL=server.url, PATIENCE="30") == ["frob"]
+        assert shell.offers(["who", "fro"], INDEX_URL=server.url, PATIENCE="30") == ["frob"]
 
 
 def test_a_file_whose_name_is_a_command_is_quoted(tmp_path):

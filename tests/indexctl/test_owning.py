@@ -35,7 +35,7 @@ ASKS = "name relinquish", "file delete"
 TIMER, SEARCH = "A timer for nightly builds", "search WORD"
 # of USING, and of these what needs no token
 SAID_OF_USING = {"name claim frob": "claim frob", "status frob": "owners  ann", "files frob": "frob-1.0.tar.gz",
-                 "releases frob": "1.0", SEARCH: ""}
+                 "releases frob": "1.0", SEARCH: "", "doctor": "the index answers"}
 
 
 def build(folder: str) -> str:

@@ -19,9 +19,9 @@ def test_after_a_command_come_choices_and_options():
 def test_of_a_command_with_a_name_the_index_is_asked():
     asking = Command("show", "x", (argument("name", metavar="NAME"), argument("means", choices=("a",))), lambda _: None)
     other = Command("noun list", "x", (argument("--json"), argument("folder", metavar="DIR")), lambda _: None)
-    lines = completion.script_of([asking, other, Command("man", "x", (), lambda _: None)]).splitlines()
+    lines = completion.script_of([asking, other, Command("man", "x", (), lambda _: None)], "bash").splitlines()
     assert [it.split(")")[0].strip() for it in lines if "asks=yes" in it] == ['" show"']
-    assert [it.strip() for it in lines if '" noun")' in it and "words=" in it] == ['" noun") words="list" ;;']
+    assert [it.strip() for it in lines if '" noun")' in it and "offers=" in it] == ['" noun") offers="list" ;;']
 
 
 @pytest.mark.parametrize("text, given, kind, profile", [
@@ -79,9 +79,9 @@ def test_releases_are_those_that_begin_so():
 
 def test_the_script_is_printed_or_what_the_index_has(monkeypatch, capsys):
     monkeypatch.setattr(completion, "found_in_time", lambda it: [it.kind, "b"])
-    for words, told in (([], completion.script_of(completion.load())), (["who", "a"], "NAME\nb\n"),
+    for words, told in (([], completion.script_of(completion.load(), "zsh")), (["who", "a"], "NAME\nb\n"),
                         (["upload", "a"], ""), (["case", "list", "a"], ""),
                         (["case", "attempt", "p"], "NAME\nb\n"),
                         (["case", "attempt", "a", "p"], "NAME\nb\nprofile\npages\n")):
-        completion.completion(argparse.Namespace(words=words))
+        completion.completion(argparse.Namespace(words=words, shell="zsh"))
         assert capsys.readouterr().out == told

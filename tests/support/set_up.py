@@ -38,8 +38,8 @@ QUICK = {
     "tox": "tox", "nox": "nox", "pipx": "pipx", "python3-build": "pyproject-build",
     "python3-distlib": "import distlib", "python3-setuptools": "import setuptools", "python3-pip": "import pip",
     "python3-venv": "import ensurepip", "devscripts": "uscan", "git": "git",
-    # look up what projects need
-    "jq": "jq",
+    # look up what projects need; complete commands
+    "jq": "jq", "zsh": "zsh", "fish": "fish",
     # read the page of the office, and the manual page of indexctl; render descriptions of projects
     "chromium": "chromium", "groff": "groff", "python3-readme-renderer": "import readme_renderer",
     # check identity tokens of pipelines, and sign some
