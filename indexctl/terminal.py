@@ -13,7 +13,7 @@ from contextlib import suppress
 from typing import Any, Callable, ClassVar, Dict, Iterable, Iterator, Mapping, Optional, Sequence, TextIO
 
 from indexctl.ends import WRONG, Stop
-from package_index.shown import MIB, how_far
+from package_index.shown import MIB, clock, how_far, in_journal, is_watched
 
 Columns = Dict[str, Callable[[Any], str]]
 COLOURS = {"bold": "1", "dim": "2", "red": "31", "yellow": "33"}
@@ -35,7 +35,8 @@ def printable(value: object) -> str:
 
 
 class Progress:
-    """How far a walk has come, on one line of a terminal. Without a terminal it prints nothing."""
+    """How far a walk has come, on one line of a terminal. In the journal stand its begin and its end, and elsewhere
+    nothing."""
 
     drawn: ClassVar[Optional[Progress]] = None
     lock: ClassVar[threading.Lock] = threading.Lock()
@@ -43,13 +44,19 @@ class Progress:
     def __init__(self, what: str, total: int, is_bytes: bool = False) -> None:
         self.what, self.total, self.done, self.last, self.is_bytes = what, total, 0, 0.0, is_bytes
         self.begun = time.monotonic()
-        self.is_watched = sys.stderr.isatty() and os.environ.get("TERM") != "dumb"
+        self.is_watched = is_watched()
+        # of a file that goes out a line is printed when it is there
+        self.is_told = not self.is_watched and not is_bytes and in_journal()
 
     def __enter__(self) -> Progress:
+        if self.is_told:
+            note(f"{self.what}: {self.total}, begun")
         return self
 
     def __exit__(self, *_: object) -> None:
         self.clear()
+        if self.is_told:
+            note(f"{self.what}: {self.done} of {self.total}, ended after {clock(time.monotonic() - self.begun)}")
 
     def step(self, count: int = 1) -> None:
         self.done += count

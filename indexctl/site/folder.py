@@ -16,6 +16,7 @@ from indexctl.site.log import Log
 from indexctl.site.needs import Around, json_of, needed_by
 from indexctl.site.pages import list_page, missing_page, project_page
 from indexctl.site.projects import Project
+from indexctl.terminal import Progress
 from indexctl.transport import object_of
 
 try:
@@ -70,9 +71,11 @@ def put_pages(folder: str, url: str, projects: Sequence[Project], descriptions: 
         ("404.html", missing_page(url)),
         ("style.css", part_of_page("page.css") + part_of_page("site/site.css")),
         *((name, part_of_page(f"site/{name}")) for name in ("site.js", "icon.svg")))]
-    for name, it in own.items():
-        description = descriptions.html(it.digest, it.about.described)
-        changed.append(put_changed(os.path.join(inner, name), project_page(url, it, description, around)))
+    with Progress("pages", len(own)) as progress:
+        for name, it in own.items():
+            description = descriptions.html(it.digest, it.about.described)
+            changed.append(put_changed(os.path.join(inner, name), project_page(url, it, description, around)))
+            progress.step()
     changed.append(put_changed(os.path.join(folder, "projects.json"), "".join(json_of(url, projects, around))))
     changed.append(put_feed(os.path.join(folder, "feed.xml"), url, around.users, log))
     changed.append(put_changed(os.path.join(folder, "index.html"), list_page(url, projects, around)))

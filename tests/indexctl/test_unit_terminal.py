@@ -3,6 +3,7 @@ from __future__ import annotations
 
 import io
 import json
+import os
 import sys
 
 import pytest
@@ -122,6 +123,19 @@ def test_a_terminal_that_moves_no_cursor_shows_no_progress(monkeypatch):
 def test_without_a_terminal_there_is_no_progress(capsys):
     with terminal.Progress("names", 3) as progress:
         progress.step()
+    assert capsys.readouterr().err == ""
+
+
+def test_in_the_journal_stand_the_begin_and_the_end_of_a_walk(monkeypatch, capsys):
+    clock, at = Clock(monkeypatch), os.fstat(2)
+    monkeypatch.setenv("JOURNAL_STREAM", f"{at.st_dev}:{at.st_ino}")
+    with terminal.Progress("names", 3) as progress:
+        assert capsys.readouterr().err == "names: 3, begun\n"
+        clock.now += 75
+        progress.step(2)
+    assert capsys.readouterr().err == "names: 2 of 3, ended after 1:15\n"
+    with terminal.Progress("x.whl", 3, is_bytes=True) as progress:
+        progress.step(3)
     assert capsys.readouterr().err == ""
 
 

@@ -25,6 +25,7 @@ from package_index import (
     grown,
     hints,
     log_place,
+    long_work,
     looks,
     names,
     passes,
@@ -38,5 +39,5 @@ from package_index import (
 )
 
 __all__ = ["cache", "changes", "commands", "copies", "counted", "database", "disk", "ends", "exchange", "exposition",
-           "followed", "forms", "front", "fronts", "grown", "hints", "log_place", "looks", "names", "passes",
-           "publishers", "replies", "shown", "tallies", "two_machines", "units", "watched"]
+           "followed", "forms", "front", "fronts", "grown", "hints", "log_place", "long_work", "looks", "names",
+           "passes", "publishers", "replies", "shown", "tallies", "two_machines", "units", "watched"]
