@@ -2,12 +2,16 @@
 from __future__ import annotations
 
 import os
-from typing import Iterator
+from typing import TYPE_CHECKING, Iterator
 
 import pytest
 from support.indexctl.control import Control
 from support.indexctl.desk import Run
 from support.needed import want_command
+
+if TYPE_CHECKING:
+    from support.indexctl.browser import Page
+    from support.indexctl.site import Site
 
 
 @pytest.fixture(scope="module")
@@ -32,6 +36,22 @@ def still_url(program: str) -> Iterator[str]:
     from support.serving import Index
     with Index(program) as index:
         yield f"http://127.0.0.1:{index.port}"
+
+
+@pytest.fixture(scope="module")
+def site(program: str, open_folder: str, certificate: str) -> Iterator[Site]:
+    """The pages for everybody, as nginx serves them."""
+    from support.indexctl.site import served_site
+    with served_site(program, open_folder, certificate) as made:
+        yield made
+
+
+@pytest.fixture(scope="module")
+def chromium() -> Iterator[Page]:
+    """A page of a browser."""
+    from support.indexctl.browser import opened
+    with opened() as page:
+        yield page
 
 
 @pytest.fixture

@@ -12,7 +12,7 @@ from dataclasses import dataclass
 import pytest
 from indexctl import page as office_page
 from indexctl.quotas import Overview
-from support.indexctl.browser import BROKEN_WORDS, CONTRASTS, WIDTHS, opened
+from support.indexctl.browser import BROKEN_WORDS, CONTRASTS, WIDTHS
 from support.indexctl.control import Control, assert_ends, filled, put
 from support.indexctl.page import DRIVER, Reader, rendered, title_of
 from support.indexctl.projects import LONGEST_USER
@@ -133,12 +133,6 @@ def test_no_other_script_runs(office, folder):
     injected = office.text.replace("</main>", "<script>document.title = 'injected'</script></main>")
     page, console = rendered(put(f"{folder}/injected.html", injected, 0o644))
     assert title_of(page).startswith("The office of ") and console != []
-
-
-@pytest.fixture(scope="module")
-def chromium():
-    with opened() as page:
-        yield page
 
 
 @pytest.mark.parametrize("scheme", ["light", "dark"])

@@ -5,14 +5,14 @@ import os
 import re
 import signal
 import subprocess
-from typing import Any, Iterator
+from typing import Any
 
 import pytest
-from support.indexctl.browser import BROKEN_WORDS, CONTRASTS, WIDTHS, Page, opened
+from support.indexctl.browser import BROKEN_WORDS, CONTRASTS, WIDTHS, Page
 from support.indexctl.control import assert_ends, put
 from support.indexctl.projects import LONGEST_USER
 from support.indexctl.sample import NAMES
-from support.indexctl.site import COUNT, FJORD, PEOPLE, Site, read, served_site, texts_of
+from support.indexctl.site import COUNT, FJORD, PEOPLE, read, texts_of
 from support.needed import want_module
 from support.places import NGINX, SERVER
 from support.serving import Index
@@ -21,26 +21,10 @@ pytestmark = pytest.mark.xdist_group("site")
 OWN = "404.html", "feed.xml", "icon.svg", "index.html", "projects.json", "site.js", "style.css"
 
 
-@pytest.fixture(scope="module")
-def site(program, open_folder, certificate) -> Iterator[Site]:
-    with served_site(program, open_folder, certificate) as made:
-        yield made
-
-
-@pytest.fixture(scope="module")
-def chromium() -> Iterator[Page]:
-    with opened() as page:
-        yield page
-
-
 def shown(page: Page) -> Any:
     """The names of the projects that the list shows."""
     return page.value("Array.from(document.querySelectorAll('.projects > li:not([hidden]) a'),"
                       "function (it) { return it.textContent; })")
-
-
-def text(page: Page) -> str:
-    return str(page.value("document.body.innerText"))
 
 
 def test_a_page_is_written_for_each_project_without_a_token(site):
@@ -171,10 +155,10 @@ def test_a_search_can_be_sent(site, chromium):
     chromium.go("about:blank")
     chromium.go(f"{site.front.url}/browse/#q=fjord+%C3%BC")
     assert chromium.value("document.getElementById('find').value") == "fjord \u00fc" and shown(chromium) == []
-    assert "No project has these words." in text(chromium)
+    assert "No project has these words." in chromium.text()
     chromium.value("location.hash = '#q=fjord'")
     assert chromium.until("document.querySelectorAll('.projects > li:not([hidden])').length === 1")
-    assert "No project" not in text(chromium)
+    assert "No project" not in chromium.text()
     chromium.value("document.getElementById('find').select()")
     chromium.type("ember cache & 100%")
     assert chromium.until("location.hash === '#q=ember+cache+%26+100%25'")
@@ -281,7 +265,7 @@ def test_no_word_is_broken(site, chromium, path, look, most):
     chromium.go(f"{site.front.url}{path}")
     found = chromium.value(BROKEN_WORDS % most)
     assert found["seen"] > 30 and found["found"] == []
-    assert (LONGEST_USER in text(chromium)) == (path != FJORD)
+    assert (LONGEST_USER in chromium.text()) == (path != FJORD)
 
 
 def test_a_mark_is_one_line_beside_a_name_of_any_length(site, chromium):
@@ -302,7 +286,7 @@ def test_paper_has_all_and_no_search(site, chromium):
     chromium.look(wide=800, media="print")
     chromium.go(f"{site.front.url}/browse/")
     assert chromium.value("getComputedStyle(document.getElementById('find')).display") == "none"
-    assert "Fjord.Queue" in text(chromium)
+    assert "Fjord.Queue" in chromium.text()
 
 
 def test_without_a_script_all_is_there_but_the_search(site, chromium):

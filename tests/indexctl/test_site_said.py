@@ -4,38 +4,20 @@ from __future__ import annotations
 import json
 import re
 import xml.etree.ElementTree
-from typing import Iterator
 
 import pytest
-from support.indexctl.browser import Page, opened
 from support.indexctl.control import put
 from support.indexctl.projects import REASON
 from support.indexctl.sample import MARKUP
-from support.indexctl.site import COUNT, FJORD, PEOPLE, Site, read, served_site
+from support.indexctl.site import COUNT, FJORD, PEOPLE, read
 from support.needed import want_module
 
 pytestmark = pytest.mark.xdist_group("site_said")
 
 
-@pytest.fixture(scope="module")
-def site(program, open_folder, certificate) -> Iterator[Site]:
-    with served_site(program, open_folder, certificate) as made:
-        yield made
-
-
-@pytest.fixture(scope="module")
-def chromium() -> Iterator[Page]:
-    with opened() as page:
-        yield page
-
-
-def text(page: Page) -> str:
-    return str(page.value("document.body.innerText"))
-
-
 def test_pages_and_a_feed_say_what_the_log_of_changes_says(site, chromium):
     chromium.go(f"{site.front.url}{FJORD}")
-    said = text(chromium)
+    said = chromium.text()
     assert "newest release\n2.0\n" in said and said.count("uploaded 2026-11-30 06:00 UTC") == 1
     root = xml.etree.ElementTree.fromstring(site.front.ask("GET", "/browse/feed.xml")[2])
     assert [it.text for it in root.iter("{http://www.w3.org/2005/Atom}title")] == [
@@ -75,13 +57,13 @@ def test_a_description_is_rendered_and_does_nothing(site, chromium):
     chromium.value("document.querySelector('.description b').click()")
     assert chromium.value("document.title") == "Fjord.Queue \u00b7 packages.example"
     assert chromium.value("document.querySelectorAll('.description a').length") == 0
-    assert "\\u202ex" in text(chromium) and "built" in text(chromium)
+    assert "\\u202ex" in chromium.text() and "built" in chromium.text()
 
 
 def test_texts_of_strangers_are_texts(site, chromium):
     chromium.look()
     chromium.go(f"{site.front.url}{FJORD}")
-    said = text(chromium)
+    said = chromium.text()
     assert said.count(MARKUP) >= 2 and REASON in said
     assert "\\u202e" in said and "\u202e" not in chromium.value("document.documentElement.outerHTML")
     assert chromium.value("document.title") == "Fjord.Queue \u00b7 packages.example"
@@ -89,7 +71,7 @@ def test_texts_of_strangers_are_texts(site, chromium):
     links = chromium.value("Array.from(document.links, function (it) { return it.protocol; })")
     assert set(links) == {"https:"}
     chromium.go(f"{site.front.url}/browse/")
-    assert MARKUP in text(chromium) and "\u202e" not in chromium.value("document.documentElement.outerHTML")
+    assert MARKUP in chromium.text() and "\u202e" not in chromium.value("document.documentElement.outerHTML")
 
 
 def test_a_script_that_gets_into_a_page_does_not_run(site, chromium):
@@ -110,7 +92,7 @@ def test_releases_come_newest_first_with_files_digests_and_yanks(site, chromium)
     heads = chromium.value("Array.from(document.querySelectorAll('section h3'),"
                            "function (it) { return it.textContent; })")
     assert heads == ["2.1", "2.0", "2.0rc1", "1.10", "1.9"]
-    said = text(chromium)
+    said = chromium.text()
     assert "newest release\n2.0\n" in said and "Yanked: loses" in said and said.count("Yanked") == 1
     assert said.count("Python >=3.8, <4") == 5
     assert len(set(re.findall(r"SHA-256 ([0-9a-f]{64})\n", said))) == 6
@@ -119,7 +101,7 @@ def test_releases_come_newest_first_with_files_digests_and_yanks(site, chromium)
 
 def test_a_page_says_what_the_newest_wheel_says(site, chromium):
     chromium.go(f"{site.front.url}{FJORD}")
-    said = text(chromium)
+    said = chromium.text()
     assert 'home page\nhttps://fjord.example/?a="><b>\nlinks\nSource & more git.example\nlicence\nMIT\n' in said
     assert "\nClassifiers\nLicense :: OSI Approved :: BSD License\n" in said
     assert said.index("Sends & receives") < said.index("newest release")
@@ -127,21 +109,21 @@ def test_a_page_says_what_the_newest_wheel_says(site, chromium):
 
 def test_a_page_says_how_to_install(site, chromium):
     chromium.go(f"{site.front.url}{FJORD}")
-    said = text(chromium)
+    said = chromium.text()
     assert f"python3 -m pip install --index-url {PEOPLE}/simple/ fjord-queue\n" in said
     assert f"uv add --default-index {PEOPLE}/simple/ fjord-queue\n" in said
     chromium.go(f"{site.front.url}/browse/projects/driftwood.html")
-    said = text(chromium)
+    said = chromium.text()
     assert "Install" not in said and "newest release\nno release" in said and "No file has been uploaded yet." in said
 
 
 def test_a_page_says_what_the_project_needs_and_what_needs_it(site, chromium):
     chromium.go(f"{site.front.url}{FJORD}")
-    assert "\nNeeds\nEmber.Cache >=1; python_version < '3.9'\nrequests\n" in text(chromium)
+    assert "\nNeeds\nEmber.Cache >=1; python_version < '3.9'\nrequests\n" in chromium.text()
     links = "Array.from(document.querySelectorAll('.columns a'), function (it) { return it.pathname; })"
     assert chromium.value(links) == ["/browse/projects/ember-cache.html"]
     chromium.go(f"{site.front.url}/browse/projects/ember-cache.html")
-    assert chromium.value(links) == [FJORD] and "\nNeeded by\nfjord-queue\n" in text(chromium)
+    assert chromium.value(links) == [FJORD] and "\nNeeded by\nfjord-queue\n" in chromium.text()
 
 
 def test_programs_get_all_projects_as_json(site):
@@ -154,10 +136,10 @@ def test_programs_get_all_projects_as_json(site):
 
 def test_a_page_has_owners_and_an_open_case(site, chromium):
     chromium.go(f"{site.front.url}/browse/projects/glasshouse.html")
-    said = text(chromium)
+    said = chromium.text()
     assert "owners\nhugo\n" in said and "jonas asks for this name, to continue the project, since 20" in said
     chromium.go(f"{site.front.url}/browse/projects/inkwell.html")
-    assert "open case" not in text(chromium)
+    assert "open case" not in chromium.text()
 
 
 def test_each_link_to_a_file_gives_its_bytes(site, chromium):

@@ -132,6 +132,10 @@ class Page:
         assert "exceptionDetails" not in found, found
         return found["result"].get("value")
 
+    def text(self) -> str:
+        """The text that a person sees."""
+        return str(self.value("document.body.innerText"))
+
     def until(self, script: str) -> bool:
         """Waits until a script says true, and then says so."""
         until = time.monotonic() + PATIENCE
