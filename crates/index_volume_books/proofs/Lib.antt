@@ -1,0 +1,4 @@
+pub mod OverLemmas
+pub mod ThroughLemmas
+pub mod TakenLemmas
+pub mod LastLemmas
