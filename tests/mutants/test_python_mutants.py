@@ -12,8 +12,8 @@ import time
 
 import pytest
 from support.inner_runs import Ended, copy_rooms, run_tests
-from support.mutant_runs import (EQUIVALENT, ROOMS, MutantRuns, caught_by, draw, equivalents, function_of, functions_of,
-                                 least_caught, others_of, python_files, seen_by_file, units_of, words_in)
+from support.mutant_runs import (EQUIVALENT, MEMORY, ROOMS, MutantRuns, caught_by, draw, equivalents, function_of,
+                                 functions_of, least_caught, others_of, python_files, seen_by_file, units_of, words_in)
 from support.places import TOP
 from support.python_mutants import is_program, mutants_of
 
@@ -76,6 +76,14 @@ def test_a_copy_has_nothing_that_runs_have_left(tmp_path):
 def test_a_mutant_that_ends_pytest_itself_is_caught_by_no_test(status):
     """It refuses no run: of many mutants it is one that is not caught."""
     assert caught_by(Ended(status, frozenset(), frozenset(), "")) == ""
+
+
+@pytest.mark.parametrize("memory, status", [(MEMORY, 1), (0, 0)])
+def test_a_mutant_without_a_bound_fails_by_one(tmp_path, memory, status):
+    """Else it takes all memory of the machine, and the kernel kills whatever has most. (What is not written to takes
+    none.)"""
+    (tmp_path / "test_x.py").write_text(f"def test_x():\n    bytearray({MEMORY + (1 << 28)})\n")
+    assert run_tests(str(tmp_path), ["test_x.py"], memory=memory).status == status
 
 
 def test_what_is_the_same_program_is_there():

@@ -55,10 +55,12 @@ def copy_rooms(copy: str) -> str:
     return copy
 
 
-def run_tests(top: str, names: Iterable[str], *words: str, seconds: float = 400) -> Ended:
+def run_tests(top: str, names: Iterable[str], *words: str, seconds: float = 400, memory: int = 0) -> Ended:
     """Runs tests, by their names from the top, in a copy or in the repository itself. A run that takes longer is
-    interrupted, and has the status -1. What it started ends with it."""
-    command = [sys.executable, "-B", "-m", "pytest", *names, "-q", "-rfEs", "--tb=short", "-n", "0", *words]
+    interrupted, and has the status -1. What it started ends with it. With `memory` none of its processes gets more
+    bytes."""
+    bound = ["prlimit", f"--data={memory}"] if memory else []
+    command = [*bound, sys.executable, "-B", "-m", "pytest", *names, "-q", "-rfEs", "--tb=short", "-n", "0", *words]
     with subprocess.Popen(command, cwd=top, stdin=subprocess.DEVNULL, stdout=subprocess.PIPE, stderr=subprocess.STDOUT,
                           text=True, errors="replace", start_new_session=True, env=environment()) as run:
         status = None

@@ -30,6 +30,8 @@ WANTED = 0.85
 BY_CHANCE = 1_000
 # how long the unit tests may take on one mutant, the others of its file, and one test of these
 SECONDS_OF_UNITS, SECONDS_OF_ROOM, SECONDS_OF_TEST = 300, 300, 90
+# the bytes that a process of theirs may have: a mutant may count what it reads wrongly, and read without an end
+MEMORY = 4 << 30
 # the rooms, and how many of the files of their tests are run for a file that no break changes
 ROOMS = {"server": "tests/server", "indexctl": "tests/indexctl"}
 FILES_OF_ROOM = 4
@@ -159,7 +161,7 @@ class MutantRuns:
 
     def run(self, copy: str, tests: list[str], seconds: float) -> Ended:
         return run_tests(copy, tests, "-x", "--program", self.program, "--timeout", str(SECONDS_OF_TEST),
-                         seconds=seconds)
+                         seconds=seconds, memory=MEMORY)
 
     def passes_as_it_is(self, copy: str, test: str, seconds: float) -> bool:
         """Whether this test passes where nothing is wrong: else it would catch anything. It is looked at once."""
