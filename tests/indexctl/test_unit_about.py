@@ -38,6 +38,7 @@ from support.indexctl.projects import wheel_of
      "Classifier: License :: OSI Approved :: BSD License\n", About(
          "", "", "MIT License, BSD License", (), ("Topic :: Text", "License :: OSI Approved :: MIT License",
                                                   "License :: OSI Approved :: BSD License"))),
+    ("Summary:\n  on the next line\n", About("on the next line")),
     (f"Summary: {'x' * 301}\n", About("x" * 300)), ("Summary: \u00fcber\n", About("\u00fcber")), ("", About())])
 def test_a_wheel_says_summary_links_licence_and_classifiers(headers, said):
     assert about.read_about("frob.whl", wheel_of("frob", "1.0", headers)) == (said, about.NO_TEXT)

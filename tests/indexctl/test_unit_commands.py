@@ -64,7 +64,7 @@ def test_a_refusal_is_the_status(run, words):
     ("case", "attempt", "-", "pages"), ("name", "prohibit", "-"), ("who", "-"), ("owned-by", "Bob"),
     ("files", "-"), ("releases", "-"), ("status", "-"),
     ("quota", "set", "-", "1"), ("user", "add", "eve", "--digest", "x"), ("user", "add", "eve", "--digest", sha256("")),
-    ("user", "add", "eve", "bob", "--digest", "0" * 64)])
+    ("user", "add", "eve", "--digest", sha256("").upper()), ("user", "add", "eve", "bob", "--digest", "0" * 64)])
 def test_a_slip_is_found_before_anything_is_asked_for(run, words):
     # (what calls one of these fails by a TypeError)
     for name in ("held_names", "find_standing", "find_contents"):

@@ -199,6 +199,28 @@ def test_what_a_run_spends_on_descriptions_is_counted():
         assert not renderer.has_time
 
 
+class Timer:
+    """Stands for one of `threading`, and never ends."""
+    made: list[Timer] = []
+
+    def __init__(self, *_):
+        self.is_over = False
+        self.made.append(self)
+
+    def start(self):
+        """Nothing is ended here."""
+
+    def cancel(self):
+        self.is_over = True
+
+
+def test_a_process_that_has_answered_is_not_ended_by_its_clock(monkeypatch):
+    monkeypatch.setattr(descriptions.threading, "Timer", Timer)
+    with descriptions.Renderer() as renderer:
+        renderer.html_of(Description("a", MARKDOWN))
+    assert Timer.made and all(it.is_over for it in Timer.made)
+
+
 def test_a_description_that_is_too_long_says_so(tmp_path):
     made = descriptions.Descriptions(str(tmp_path), FakeRenderer())
     by = made.put("a", Description("a" * (descriptions.MOST_TEXT + 1), MARKDOWN))

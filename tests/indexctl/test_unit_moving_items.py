@@ -10,6 +10,7 @@ from indexctl.moving.imports import read_owners, some
 from indexctl.moving.items import Found, Item, Left, add_items, read_wanted, reason_of, settle, tell_missing, why_not
 from indexctl.moving.pool import AT_ONCE, at_once
 from indexctl.moving.web import Failure
+from support.unit import raises
 
 WHEEL, OTHER, SOURCE = "frob-1.0-py3-none-any.whl", "frob-2.0-py3-none-any.whl", "frob-1.0.tar.gz"
 
@@ -141,6 +142,15 @@ def test_a_failure_stops_the_others_after_what_is_under_way():
     with pytest.raises(Stop):
         list(at_once(work, range(99), stopped))
     assert 0 in done and len(done) < 9
+
+
+@pytest.mark.parametrize("end, said", [
+    (Stop(WRONG, "x"), ""),
+    (KeyboardInterrupt(), "Stopping after what is under way. Press Ctrl-C again to end at once.\n")])
+def test_who_presses_ctrl_c_is_told_how_to_end_at_once_and_nobody_else(capsys, end, said):
+    with pytest.raises(type(end)):
+        list(at_once(raises(end), range(3), threading.Event()))
+    assert capsys.readouterr().err == said
 
 
 def test_one_who_wants_no_more_is_no_failure():

@@ -29,7 +29,8 @@ def leave(made):
 
 @contextmanager
 def dripping(*pieces, pause=0.0, end=b""):
-    """A server that sends pieces to whoever connects, and then this one again and again."""
+    """A server that sends pieces to whoever connects, and then this one again and again: but a thousand times at the
+    most, so that nobody who takes all of them fills the memory of the machine."""
     is_over = threading.Event()
 
     def serve():
@@ -43,7 +44,9 @@ def dripping(*pieces, pause=0.0, end=b""):
                     peer.recv(4096)
                     for piece in pieces:
                         peer.sendall(piece)
-                    while end and not is_over.wait(pause):
+                    for _ in range(1_000 if end else 0):
+                        if is_over.wait(pause):
+                            break
                         peer.sendall(end)
                 except OSError:
                     continue

@@ -50,6 +50,14 @@ def test_the_manual_of_a_command_has_its_usage_and_each_argument_with_help():
         ".B \\-\\-quiet", "says nothing."]
 
 
+def test_the_manual_has_its_sections_in_the_order_of_man_pages(monkeypatch):
+    told = []
+    monkeypatch.setattr(shell, "put", told.append)
+    shell.man(argparse.Namespace())
+    assert re.findall(r"^\.SH (.*)$", told[0], re.M) == [
+        "NAME", "SYNOPSIS", "DESCRIPTION", "OPTIONS", "COMMANDS", "ENVIRONMENT", "FILES", "EXIT STATUS"]
+
+
 def test_a_summary_becomes_a_sentence():
     assert command_line.sentence("does this") == "Does this."
 
@@ -78,6 +86,12 @@ def test_a_line_that_lacks_something_is_refused(words, capsys):
 def test_a_terminal_may_have_one_column(monkeypatch):
     monkeypatch.setenv("COLUMNS", "1")
     assert "usage: indexctl" in parsers(())[0].format_help()
+
+
+def test_help_tears_no_command_that_a_person_copies(monkeypatch):
+    monkeypatch.setenv("COLUMNS", "40")
+    text = command_line.wrapped(f"{'word ' * 6}`indexctl release delete frob --older-than 30`")
+    assert "--older-than" in text and max(map(len, text.splitlines())) <= 38
 
 
 @pytest.mark.parametrize("columns, most", [(60, 58), (200, 100)])

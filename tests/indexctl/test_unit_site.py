@@ -269,6 +269,13 @@ def test_a_page_is_written_if_it_changed(tmp_path):
     assert folder.put_changed(path, "b") and os.listdir(tmp_path) == ["x.html"]
 
 
+def test_each_page_of_a_name_that_is_gone_is_removed(tmp_path):
+    for name in ("a.html", "b.html", "c.html.part", "kept.html", "mine.txt"):
+        (tmp_path / name).touch()
+    assert folder.remove_others(str(tmp_path), ["kept.html"]) == 3
+    assert sorted(os.listdir(tmp_path)) == ["kept.html", "mine.txt"]
+
+
 def test_pages_are_not_synced_one_by_one(tmp_path, monkeypatch):
     monkeypatch.setattr(os, "fsync", lambda *_: pytest.fail("synced"))
     folder.put_changed(str(tmp_path / "x"), "a")

@@ -148,6 +148,11 @@ def test_releases_are_named_as_people_name_them(run, verb, words):
     assert [(row["do"], row["name"], row["release"]) for row in rows] == [(verb, *it) for it in RELEASES[words]]
 
 
+def test_gaps_about_what_names_a_release_are_passed_over(run):
+    rows = run.asked("release", "yank", "frob == 1.0", " spam==2 ")
+    assert [(row["name"], row["release"]) for row in rows] == [("frob", "1.0"), ("spam", "2")]
+
+
 @pytest.mark.parametrize("words", ["frob", "frob==", "frob==1.0 spam", "frob spam==1.0", "frob==1.0 1.1", "frob===1.0"])
 @pytest.mark.parametrize("verb", ["yank", "unyank", "delete"])
 def test_a_release_that_is_not_named_is_told(run, verb, words):

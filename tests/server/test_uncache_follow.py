@@ -239,7 +239,7 @@ def test_a_change_without_an_answer_is_taken_out_if_an_index_got_it(status, more
     '{"do":"prohibit","name":"a/b"}', '{"do":"prohibit","name":7}', '{"do":"prohibit","name":["a"]}',
     r'{"do":"prohibit","name":"\u0000"}', r'{"do":"ban_file","file":"a\ud800-1.tar.gz"}',
     pytest.param("[" * 65_536, id="deep"), '{"do":"ban_file","file":"a/b-1.tar.gz"}', '{"do":"prohibit","name":""}',
-    "7", '{"do":"prohibit","name":null}'])
+    "7", '{"do":"prohibit","name":null}', '{"do":"ban_file","file":7}'])
 def test_a_body_that_is_no_request_takes_nothing_out_and_ends_nothing(body):
     """Anybody may send one while the index ends, which is a line that the index got and did not answer."""
     line = json.dumps({"status": 502, "reached": True, "method": "POST", "path": "/requests", "body": body})

@@ -98,6 +98,7 @@ def test_a_form_of_no_fields_has_none():
     (field("name", b"frob") + END + b"x", "malformed or breaks off"),
     (f"--{BOUNDARY}\r\nX: y\r\n\r\nz\r\n".encode() + END, "a field has no name"),
     (f"--{BOUNDARY}\r\nContent-Disposition: file; name=\"x\"\r\n\r\nz\r\n".encode() + END, "a field has no name"),
+    (field("name", b"frob").replace(b"\r\n", b"  ", 1) + END, "malformed or breaks off"),
     # the boundary stands where the value would
     (field("name", b"").removesuffix(b"\r\n") + END, "malformed or breaks off"),
     (field("docs", b"x", "a.html") + END, "a file in the field 'docs'"),

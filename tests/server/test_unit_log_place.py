@@ -21,6 +21,12 @@ def test_the_log_is_where_nginx_writes_it(tmp_path, text, log):
     assert log_place.log_of_changes(str(tmp_path / "packages.conf")) == log
 
 
+def test_what_is_no_text_hides_no_log(tmp_path):
+    """As a comment in Latin-1."""
+    (tmp_path / "packages.conf").write_bytes(b"# f\xfcr uns\n" + ELSEWHERE.encode())
+    assert log_place.log_of_changes(str(tmp_path / "packages.conf")) == "/srv/logs/changes.log"
+
+
 def test_without_nginx_it_is_that_of_the_package(tmp_path):
     assert log_place.log_of_changes(str(tmp_path / "none")) == "/var/log/package-index/changes.log"
 

@@ -38,6 +38,16 @@ def test_a_line_has_the_port_and_the_part():
     assert exposition.line(room, 8080) == 'index_room_bytes{port="8080",of="nginx"} 5\n'
 
 
+def test_the_parts_of_a_histogram_are_described_by_its_name_and_those_of_no_histogram_by_their_own():
+    known = {"took": ("histogram", "How long."), "of_count": ("gauge", "How many.")}
+    parts = [METRICS.Metric("took_bucket", 1, (("le", "+Inf"),)), METRICS.Metric("took_sum", 5),
+             METRICS.Metric("took_count", 1), METRICS.Metric("of_count", 7)]
+    assert exposition.text_of(parts, 8080, known) == (
+        "# HELP took How long.\n# TYPE took histogram\n"
+        'took_bucket{port="8080",le="+Inf"} 1\ntook_sum{port="8080"} 5\ntook_count{port="8080"} 1\n'
+        '# HELP of_count How many.\n# TYPE of_count gauge\nof_count{port="8080"} 7\n')
+
+
 def test_the_sizes_of_files_and_the_age_of_the_newest_copy(tmp_path):
     db, backups = tmp_path / "a[b]" / "index.db", tmp_path / "backups"
     for folder in (db.parent, backups, db.parent / "damaged-1", db.parent / "damaged-2"):

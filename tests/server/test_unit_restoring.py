@@ -3,6 +3,7 @@ import datetime
 import os
 import shutil
 import signal
+import sys
 import time
 import types
 
@@ -248,6 +249,16 @@ def test_units_start_however_it_ends(monkeypatch, capsys):
     asked.clear()
     ends(RESTORE, monkeypatch, capsys, "copy", "--unit", "a", "--unit", "b")
     assert asked == [("systemctl", it, "a", "b") for it in ("stop", "start")]
+
+
+def test_who_interrupts_is_told_what_is_there(monkeypatch, capsys):
+    monkeypatch.setattr(RESTORE, "restore", raises(RESTORE.Interrupted(2)))
+    monkeypatch.setattr(sys, "argv", ["index-restore", "copy"])
+    before = os.umask(0o022)
+    with pytest.raises(RESTORE.Interrupted):
+        RESTORE.main()
+    os.umask(before)
+    assert capsys.readouterr().err == "index-restore: nothing was restored: what was there is in its place\n"
 
 
 def test_units_that_do_not_start_are_told(monkeypatch, capsys):
