@@ -14,10 +14,9 @@ from typing import Any, Dict, List, Sequence, Tuple
 from indexctl.ends import WRONG, Stop
 from indexctl.moving.imports import Owners, read_owners
 from indexctl.moving.items import Left, digest_in
-from indexctl.moving.pool import at_once
+from indexctl.moving.pool import at_once_shown
 from indexctl.moving.trees import PAGE, SHOWN
 from indexctl.standings import find_page, find_standing, page_of_project
-from indexctl.terminal import Progress
 from indexctl.transport import Index, Request
 from package_index.names import file_path, normal, read_file_name
 
@@ -63,13 +62,11 @@ class Export:
 
     def run(self, names: Sequence[str]) -> None:
         pages: List[Page] = []
-        with Progress("pages", len(names)) as progress:
-            for name, page in at_once(self.look, names, self.stopped):
-                progress.step()
-                if page is None:
-                    self.report.left.append(Left(name, "nobody holds it"))
-                else:
-                    pages.append(page)
+        for name, page in at_once_shown("pages", self.look, names, self.stopped):
+            if page is None:
+                self.report.left.append(Left(name, "nobody holds it"))
+            else:
+                pages.append(page)
         self.write_owners({page.name: page.owners for page in pages})
         for page in pages:
             self.write_page(page)
@@ -90,13 +87,11 @@ class Export:
 
     def write_files(self, pages: Sequence[Page]) -> None:
         todo = [(page, row) for page in pages for row in page.rows]
-        with Progress("files", len(todo)) as progress:
-            for file, outcome in at_once(self.write_file, todo, self.stopped):
-                progress.step()
-                self.report.written += outcome == "written"
-                self.report.there += outcome == "there"
-                if outcome not in ("written", "there"):
-                    self.report.left.append(Left(file, outcome))
+        for file, outcome in at_once_shown("files", self.write_file, todo, self.stopped):
+            self.report.written += outcome == "written"
+            self.report.there += outcome == "there"
+            if outcome not in ("written", "there"):
+                self.report.left.append(Left(file, outcome))
 
     def write_file(self, one: Tuple[Page, Dict[str, Any]]) -> Tuple[str, str]:
         """Writes a file that is not there. Gives what became of it."""

@@ -9,10 +9,9 @@ from typing import Callable, Dict, Iterator, List, Sequence, Tuple
 from indexctl.changes import Desk
 from indexctl.ends import WRONG, Stop
 from indexctl.moving.items import Found, Item, Left
-from indexctl.moving.pool import at_once
+from indexctl.moving.pool import at_once, at_once_shown
 from indexctl.moving.sources import Source
 from indexctl.moving.targets import IMPORTED, LEFT, THERE, Target
-from indexctl.terminal import Progress
 from package_index.names import is_name, is_user, normal
 
 Owners = Dict[str, List[str]]
@@ -55,16 +54,14 @@ class Import:
         todo = [(target, item) for target in self.targets for item in target.project.items]
         counts = {target.name: {"": len(target.project.items), IMPORTED: 0, THERE: 0, LEFT: 0}
                   for target in self.targets}
-        with Progress("files", len(todo)) as progress:
-            for target, outcome in at_once(self.bring, todo, self.stopped):
-                progress.step()
-                count = counts[target.name]
-                count[outcome] += 1
-                self.report.imported += outcome == IMPORTED
-                self.report.there += outcome == THERE
-                if sum(count[it] for it in (IMPORTED, THERE, LEFT)) == count[""] > count[THERE]:
-                    self.tell(f"{target.name}: " + ", ".join(f"{count[it]} {it}" for it in (IMPORTED, THERE, LEFT)
-                                                             if count[it]))
+        for target, outcome in at_once_shown("files", self.bring, todo, self.stopped):
+            count = counts[target.name]
+            count[outcome] += 1
+            self.report.imported += outcome == IMPORTED
+            self.report.there += outcome == THERE
+            if sum(count[it] for it in (IMPORTED, THERE, LEFT)) == count[""] > count[THERE]:
+                self.tell(f"{target.name}: " + ", ".join(f"{count[it]} {it}" for it in (IMPORTED, THERE, LEFT)
+                                                         if count[it]))
 
     def bring(self, one: Tuple[Target, Item]) -> Tuple[Target, str]:
         return one[0], one[0].bring(self.source, one[1])

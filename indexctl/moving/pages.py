@@ -7,7 +7,7 @@ import urllib.parse
 from dataclasses import dataclass, field
 from typing import Any, Dict, Iterator, List, Optional, Tuple
 
-from indexctl.moving.items import digest_in, requires_of
+from indexctl.moving.items import Item, digest_in, requires_of
 from indexctl.moving.web import Failure, Reply
 from indexctl.standings import is_number
 from indexctl.transport import JSON_PAGE, object_of
@@ -22,20 +22,10 @@ TAG = re.compile(rf"<!--.*?(?:-->|\Z)|<(a|base|meta)((?:\s+{NAME}(?:\s*=\s*{VALU
 ATTRIBUTE = re.compile(rf"({NAME})(?:\s*=\s*({VALUE}))?")
 
 
-@dataclass(frozen=True)
-class Link:
-    """A file or a project on a page: its name, its whole address, and what else the page says of a file."""
-    name: str
-    url: str
-    sha256: str = ""
-    yanked: Optional[str] = None
-    requires: Optional[str] = None
-    size: int = 0
-
-
 @dataclass
 class Page:
-    links: List[Link] = field(default_factory=list)
+    """What a page lists: files, each at its whole address, or projects, of which each stands as a file would."""
+    items: List[Item] = field(default_factory=list)
     # what PEP 792 says of a project, such as `quarantined`
     status: str = ""
 
@@ -65,24 +55,24 @@ def read_json(reply: Reply, key: str) -> Page:
         raise Failure(f"the page has no {key}")
     page = Page(status=str(status.get("status", "")) if isinstance(status, dict) else "")
     for row in rows[:MOST_LINKS + 1]:
-        link = link_of(row, reply.url, key) if isinstance(row, dict) else None
-        page.links += [link] if link else []
+        item = item_of(row, reply.url, key) if isinstance(row, dict) else None
+        page.items += [item] if item else []
     return bounded(page)
 
 
 def bounded(page: Page) -> Page:
-    if len(page.links) > MOST_LINKS:
+    if len(page.items) > MOST_LINKS:
         raise Failure(f"the page has more than {MOST_LINKS} links")
     return page
 
 
-def link_of(row: Dict[str, Any], url: str, key: str) -> Optional[Link]:
+def item_of(row: Dict[str, Any], url: str, key: str) -> Optional[Item]:
     """The link of a row of JSON, or None if it has no name."""
     name, target = (row.get("filename"), row.get("url")) if key == "files" else (row.get("name"), "")
     if not isinstance(name, str) or not isinstance(target, str):
         return None
     yanked, hashes, size = row.get("yanked"), row.get("hashes"), row.get("size")
-    return Link(name, joined(url, target) if target else "",
+    return Item(name, joined(url, target) if target else "",
                 digest_in(hashes.get("sha256")) if isinstance(hashes, dict) else "",
                 yanked if isinstance(yanked, str) else "" if yanked is True else None,
                 requires_of(row.get("requires-python")), int(size) if size and is_number(size) else 0)
@@ -119,17 +109,17 @@ def read_html(reply: Reply, key: str) -> Page:
         elif tag == "meta" and pairs.get("name") == "pypi:project-status":
             page.status = pairs.get("content", "")
         elif tag == "a" and "href" in pairs:
-            page.links.append(anchor(pairs, words, base, key))
+            page.items.append(anchor(pairs, words, base, key))
             bounded(page)
     return page
 
 
-def anchor(pairs: Dict[str, str], words: str, base: str, key: str) -> Link:
+def anchor(pairs: Dict[str, str], words: str, base: str, key: str) -> Item:
     """The link of an anchor. A file is named by its address, as pip reads it; the digest stands behind `#`."""
     url, _, fragment = joined(base, pairs["href"].strip()).partition("#")
     last = urllib.parse.unquote(url.partition("?")[0].rstrip("/").rpartition("/")[2])
     if key != "files":
-        return Link(words or last, url)
+        return Item(words or last, url)
     digests = [it.partition("=")[2] for it in fragment.split("&") if it.startswith("sha256=")]
-    return Link(last, url, digest_in(digests[0]) if digests else "", pairs.get("data-yanked"),
+    return Item(last, url, digest_in(digests[0]) if digests else "", pairs.get("data-yanked"),
                 requires_of(pairs.get("data-requires-python")))

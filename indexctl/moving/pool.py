@@ -6,7 +6,7 @@ import threading
 from contextlib import suppress
 from typing import Callable, Iterator, Optional, Sequence, Tuple, TypeVar
 
-from indexctl.terminal import note
+from indexctl.terminal import Progress, note
 
 Item = TypeVar("Item")
 Result = TypeVar("Result")
@@ -49,6 +49,15 @@ def at_once(function: Callable[[Item], Result], items: Sequence[Item], stopped: 
     finally:
         for it in threads if stopped.is_set() else ():
             it.join()
+
+
+def at_once_shown(what: str, function: Callable[[Item], Result], items: Sequence[Item],
+                  stopped: threading.Event) -> Iterator[Result]:
+    """The same, with how many of them are done on a terminal."""
+    with Progress(what, len(items)) as progress:
+        for result in at_once(function, items, stopped):
+            progress.step()
+            yield result
 
 
 def next_of(given: "queue.SimpleQueue[Tuple[Optional[Result], Optional[BaseException]]]"

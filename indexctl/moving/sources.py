@@ -8,12 +8,11 @@ from typing import Dict, List, Optional, Protocol, Tuple
 
 from indexctl.ends import REFUSED, UNREACHED, WRONG, Stop
 from indexctl.moving.items import Found, Item, Left, Wanted, add_items, is_archive
-from indexctl.moving.pages import ACCEPT, MOST_PAGE, Link, Page, read_page
-from indexctl.moving.pool import at_once
+from indexctl.moving.pages import ACCEPT, MOST_PAGE, Page, read_page
+from indexctl.moving.pool import at_once_shown
 from indexctl.moving.web import Failure, Reply, Web, parts_of
 from indexctl.names import is_text
 from indexctl.settings import netrc_of, without_password
-from indexctl.terminal import Progress
 from indexctl.uploads import MOST_BYTES
 from package_index.names import is_name, normal, read_file_name
 
@@ -67,15 +66,15 @@ class OtherIndex:
     def listed(self) -> Dict[str, str]:
         """The projects of the list, each with its address."""
         try:
-            links = self.page(f"{self.url}/", "projects").links
+            items = self.page(f"{self.url}/", "projects").items
         except Failure as end:
             raise Stop(UNREACHED if end.passes else REFUSED if end.status == 401 else WRONG,
                        f"{self.url}/: {end}. Is this the address of its /simple/? You may also name the projects "
                        "that you want.") from end
         found: Dict[str, str] = {}
-        for link in links:
-            if is_name(link.name):
-                found.setdefault(normal(link.name), self.own_url(link) or self.url_of(link.name))
+        for item in items:
+            if is_name(item.file):
+                found.setdefault(normal(item.file), self.own_url(item.place) or self.url_of(item.file))
         if not found:
             raise Stop(WRONG, f"{self.url}/ lists no project. Is this the address of its /simple/?")
         return found
@@ -83,23 +82,21 @@ class OtherIndex:
     def url_of(self, name: str) -> str:
         return f"{self.url}/{normal(name)}/"
 
-    def own_url(self, link: Link) -> str:
-        """The address of a link if it is on the host of the source, by the login that the source's address has."""
-        found = urllib.parse.urlsplit(link.url) if link.url and is_text(link.url) else None
+    def own_url(self, url: str) -> str:
+        """An address if it is on the host of the source, by the login that the source's address has."""
+        found = urllib.parse.urlsplit(url) if url and is_text(url) else None
         is_own = found and (found.scheme, found.hostname, found.port) == (
             self.parts.scheme, self.parts.hostname, self.parts.port)
-        return link.url if is_own else ""
+        return url if is_own else ""
 
     def find(self, wanted: Wanted) -> Found:
         names = {name: self.url_of(name) for name in wanted} if wanted else self.listed()
         found = Found()
-        with Progress("pages", len(names)) as progress:
-            for name, page, why in at_once(self.look, list(names.items()), self.stopped):
-                progress.step()
-                if why:
-                    found.left.append(Left(name, why))
-                    continue
-                add_items(found, self.items_of(name, page, found), wanted)
+        for name, page, why in at_once_shown("pages", self.look, list(names.items()), self.stopped):
+            if why:
+                found.left.append(Left(name, why))
+                continue
+            add_items(found, self.items_of(name, page, found), wanted)
         return found
 
     def look(self, one: Tuple[str, str]) -> Tuple[str, Page, str]:
@@ -119,11 +116,10 @@ class OtherIndex:
     def items_of(self, name: str, page: Page, found: Found) -> List[Item]:
         """The files of a project that may be fetched. The others are left."""
         items: Dict[str, Item] = {}
-        self.count += len(page.links)
+        self.count += len(page.items)
         if self.count > MOST_FILES:
             raise Stop(WRONG, f"{self.url}/ has more than {MOST_FILES} files. Name the projects that you want.")
-        for link in filter(lambda it: is_archive(it.name), page.links):
-            item = Item(link.name, link.url, link.sha256, link.yanked, link.requires, link.size)
+        for item in filter(lambda it: is_archive(it.file), page.items):
             why = self.why_not(name, item) or why_twice(items.get(item.file), item)
             if why:
                 found.left.append(Left(f"{item.file} of {name}", why))

@@ -10,7 +10,7 @@ from typing import Dict, Iterator, Optional, Sequence
 
 from indexctl.ends import WRONG, Stop
 from indexctl.moving.items import Found, Item, Left, Wanted, add_items, is_archive, is_wanted
-from indexctl.moving.pages import MOST_PAGE, link_of
+from indexctl.moving.pages import MOST_PAGE, item_of
 from indexctl.moving.web import Failure
 from indexctl.transport import object_of
 from indexctl.uploads import MOST_BYTES
@@ -73,10 +73,10 @@ class Tree:
             return None
         if isinstance(shown, str) and is_name(shown) and (not wanted or normal(shown) in wanted):
             found.project(normal(shown)).shown = shown
-        links = ((row, link_of(row, "", "files")) for row in rows if isinstance(row, dict))
+        items = ((row, item_of(row, "", "files")) for row in rows if isinstance(row, dict))
         # an index that has no Requires-Python for a file says so by an empty one
-        return {it.name: Item(it.name, "", it.sha256, it.yanked,
-                              "" if row.get("requires-python") == "" else it.requires) for row, it in links if it}
+        return {it.file: Item(it.file, "", it.sha256, it.yanked,
+                              "" if row.get("requires-python") == "" else it.requires) for row, it in items if it}
 
     def why_not(self, path: str) -> str:
         """Why a file is not read: it is none, or it leads out of the folder."""

@@ -6,7 +6,8 @@ import time
 
 import pytest
 from indexctl.moving import pages
-from indexctl.moving.pages import Link, read_page
+from indexctl.moving.items import Item
+from indexctl.moving.pages import read_page
 from indexctl.moving.web import Failure, Reply
 from indexctl.standings import JSON_PAGE
 
@@ -44,31 +45,31 @@ def json_of(page, key="files"):
 
 
 def html_of(text, key="files"):
-    return read_page(reply(text), key).links
+    return read_page(reply(text), key).items
 
 
 def test_the_example_of_pep_691():
-    assert json_of(PEP_691).links == [
-        Link("holygrail-1.0.tar.gz", "https://example.com/files/holygrail-1.0.tar.gz", "a" * 64, "Had a vulnerability",
+    assert json_of(PEP_691).items == [
+        Item("holygrail-1.0.tar.gz", "https://example.com/files/holygrail-1.0.tar.gz", "a" * 64, "Had a vulnerability",
              ">=3.7"),
-        Link("holygrail-1.0-py3-none-any.whl", "https://example.com/files/holygrail-1.0-py3-none-any.whl", "b" * 64,
+        Item("holygrail-1.0-py3-none-any.whl", "https://example.com/files/holygrail-1.0-py3-none-any.whl", "b" * 64,
              None, ">=3.7")]
 
 
 def test_the_list_of_pep_691():
     page = {"meta": {"api-version": "1.0"}, "projects": [{"name": "Frob"}, {"name": "spamspamspam"}]}
-    assert [it.name for it in json_of(page, "projects").links] == ["Frob", "spamspamspam"]
+    assert [it.file for it in json_of(page, "projects").items] == ["Frob", "spamspamspam"]
 
 
 def test_the_example_of_pep_503():
-    assert html_of(PEP_503, "projects") == [Link("frob", "https://example.com/frob/"),
-                                            Link("spamspamspam", "https://example.com/spamspamspam/")]
+    assert html_of(PEP_503, "projects") == [Item("frob", "https://example.com/frob/"),
+                                            Item("spamspamspam", "https://example.com/spamspamspam/")]
 
 
 @pytest.mark.parametrize("key, link", [
-    (f"#sha256={DIGEST}", Link("a-1.tar.gz", "https://example.com/simple/holygrail/a-1.tar.gz", DIGEST)),
-    (f"#egg=a-1&sha256={DIGEST}", Link("a-1.tar.gz", "https://example.com/simple/holygrail/a-1.tar.gz", DIGEST)),
-    ("#md5=5d41402abc4b2a76b9719d911017c592", Link("a-1.tar.gz", "https://example.com/simple/holygrail/a-1.tar.gz"))])
+    (f"#sha256={DIGEST}", Item("a-1.tar.gz", "https://example.com/simple/holygrail/a-1.tar.gz", DIGEST)),
+    (f"#egg=a-1&sha256={DIGEST}", Item("a-1.tar.gz", "https://example.com/simple/holygrail/a-1.tar.gz", DIGEST)),
+    ("#md5=5d41402abc4b2a76b9719d911017c592", Item("a-1.tar.gz", "https://example.com/simple/holygrail/a-1.tar.gz"))])
 def test_a_digest_stands_behind_the_address(key, link):
     assert html_of(f'<a href="a-1.tar.gz{key}">a-1.tar.gz</a>') == [link]
 
@@ -93,12 +94,12 @@ def test_a_requires_python_is_taken_if_the_index_takes_it(more, requires):
     ("..%2f..%2fetc-1.tar.gz", "https://example.com/simple/holygrail/..%2f..%2fetc-1.tar.gz", "../../etc-1.tar.gz"),
     ("http://[/a-1.tar.gz", "http://[/a-1.tar.gz", "a-1.tar.gz")])
 def test_a_link_is_relative_to_its_page(target, url, name):
-    assert html_of(f"<a href='{target}'>x</a>") == [Link(name, url)]
+    assert html_of(f"<a href='{target}'>x</a>") == [Item(name, url)]
 
 
 def test_a_base_is_that_of_the_page():
     assert html_of('<base href="https://other.example/x/"><a href=a-1.tar.gz>a</a>') == [
-        Link("a-1.tar.gz", "https://other.example/x/a-1.tar.gz")]
+        Item("a-1.tar.gz", "https://other.example/x/a-1.tar.gz")]
 
 
 def test_links_in_comments_and_anchors_without_an_address_are_none():
@@ -108,14 +109,14 @@ def test_links_in_comments_and_anchors_without_an_address_are_none():
 @pytest.mark.parametrize("more, yanked", [({}, None), ({"yanked": False}, None), ({"yanked": True}, ""),
                                           ({"yanked": "x"}, "x"), ({"yanked": 3}, None)])
 def test_a_yank_in_json(more, yanked):
-    assert json_of({"files": [{"filename": "a", "url": "a", **more}]}).links[0].yanked == yanked
+    assert json_of({"files": [{"filename": "a", "url": "a", **more}]}).items[0].yanked == yanked
 
 
 @pytest.mark.parametrize("row", [{}, {"filename": "a"}, {"filename": 3, "url": "a"}, {"filename": "a", "url": 3}, "a",
                                  3])
 def test_a_row_without_a_name_or_an_address_is_passed_over(row):
-    assert json_of({"files": [row, {"filename": "b", "url": "b", "hashes": 3, "size": "x"}]}).links == [
-        Link("b", f"{URL}b")]
+    assert json_of({"files": [row, {"filename": "b", "url": "b", "hashes": 3, "size": "x"}]}).items == [
+        Item("b", f"{URL}b")]
 
 
 @pytest.mark.parametrize("status", ["active", "archived", "quarantined", "deprecated"])
@@ -129,7 +130,7 @@ def test_a_page_of_another_major_version_is_not_read(version, is_read):
     for text, kind in ((json.dumps({"meta": {"api-version": version}, "files": []}), JSON_PAGE),
                        (f'<meta name="pypi:repository-version" content="{version}">', "text/html")):
         if is_read:
-            assert read_page(reply(text, kind), "files").links == []
+            assert read_page(reply(text, kind), "files").items == []
         else:
             with pytest.raises(Failure, match=f"the page has version {version}"):
                 read_page(reply(text, kind), "files")
@@ -158,7 +159,7 @@ def test_a_page_has_a_bounded_number_of_links(monkeypatch):
     assert (pages.MOST_LINKS, pages.MOST_PAGE) == (100_000, 32 << 20)
     monkeypatch.setattr(pages, "MOST_LINKS", 2)
     rows = [{"filename": "a", "url": "a"}] * 3
-    for read in (lambda many: json_of({"files": rows[:many]}).links, lambda many: html_of("<a href=a>" * many)):
+    for read in (lambda many: json_of({"files": rows[:many]}).items, lambda many: html_of("<a href=a>" * many)):
         assert len(read(2)) == 2
         with pytest.raises(Failure, match="more than 2 links"):
             read(3)
