@@ -1,8 +1,8 @@
 """Bugs that are made by themselves in server/ and indexctl/, by the syntax tree and with a seed.
 
 A comparison or a bound moved by one, a sort turned, a number made a float, a lock shared, a condition negated, a line
-or a branch left out, an exception swallowed, a default changed: of those that are another program 85 of 100 are caught
-by a test that is named.
+or a branch left out, an exception swallowed, a default changed, two words turned, one of several left out: of those
+that are another program 85 of 100 are caught by a test that is named.
 
 `--mutants 300 --seed 1` draws so many. What was read and is the same program stands in equivalent.json, with why."""
 import glob
@@ -22,7 +22,9 @@ KINDS = {
     "flag": "fcntl.lockf(file, fcntl.LOCK_EX)", "negate": "if x:\n    y()\nelse:\n    z()", "drop": "go()",
     "branch": "if x:\n    y()", "swallow": "try:\n    x()\nexcept OSError:\n    y()", "default": "def f(x=2):\n    x()",
     "and-or": "x = a and b", "arithmetic": "x = a + b", "constant": "x = True", "called": "x = min(a, b)",
-    "return": "def f(x):\n    return x"}
+    "return": "def f(x):\n    return x", "part": "x = a or b", "element": "x = [a, b]", "once": "x = [y for y in z]",
+    "caught": "try:\n    x()\nexcept (OSError, ValueError):\n    y()", "keyword": "f(x, y=1)", "turned": "f(x, y)",
+    "tidy": "x = y.strip()"}
 
 
 @pytest.mark.parametrize("kind", KINDS)

@@ -18,6 +18,8 @@ COUNTED = {ast.Add: ast.Sub, ast.Sub: ast.Add, ast.Mult: ast.FloorDiv, ast.Floor
 FLAGS = {"LOCK_EX": "LOCK_SH", "O_EXCL": "O_CREAT", "O_APPEND": "O_TRUNC", "fsync": "fstat", "gmtime": "localtime",
          "realpath": "abspath", "startswith": "endswith", "endswith": "startswith", "replace": "rename",
          "fullmatch": "match", "search": "match"}
+# methods that leave most texts as they are
+TIDYING = {"strip", "lstrip", "rstrip", "lower", "upper", "casefold", "removeprefix", "removesuffix"}
 CALLED = {"min": "max", "max": "min", "any": "all", "all": "any", "sum": "len", "sorted": "list"}
 
 
@@ -104,6 +106,7 @@ def edits_of(node: ast.AST, places: Places) -> Iterator[Edit]:
     yield from edits_of_condition(node, places)
     yield from edits_of_value(node, places)
     yield from edits_of_statement(node)
+    yield from edits_of_parts(node, places)
     if isinstance(node, ast.Call):
         yield from edits_of_call(node, places)
     if isinstance(node, ast.arguments):
@@ -162,7 +165,28 @@ def edits_of_statement(node: ast.AST) -> Iterator[Edit]:
         yield "return", node, "return None"
 
 
+def edits_of_parts(node: ast.AST, places: Places) -> Iterator[Edit]:
+    """One of several left out: of the parts of a condition, of the exceptions that are caught, of what a list or a set
+    has; and of what is gone through all but the first."""
+    def without(one: ast.AST, among: list[ast.expr], between: str = ", ") -> str:
+        return between.join(places.text(it) for it in among if it is not one)
+
+    if isinstance(node, ast.BoolOp):
+        for it in node.values:
+            yield "part", node, f"({without(it, node.values, ' and ' if isinstance(node.op, ast.And) else ' or ')})"
+    if isinstance(node, ast.ExceptHandler) and isinstance(node.type, ast.Tuple):
+        for it in node.type.elts:
+            yield "caught", node.type, f"({without(it, node.type.elts)},)"
+    if isinstance(node, (ast.List, ast.Set)) and len(node.elts) > 1 and not is_written(node):
+        for it in node.elts:
+            inside = without(it, node.elts)
+            yield "element", node, f"[{inside}]" if isinstance(node, ast.List) else f"{{{inside}}}"
+    if isinstance(node, (ast.For, ast.comprehension)):
+        yield "once", node.iter, f"[*{places.text(node.iter)}][:1]"
+
+
 def edits_of_call(node: ast.Call, places: Places) -> Iterator[Edit]:
+    yield from edits_of_words(node, places)
     function, given = node.func, [it.arg for it in node.keywords]
     name = function.id if isinstance(function, ast.Name) else None
     if name in CALLED and node.args:
@@ -184,6 +208,21 @@ def edits_of_call(node: ast.Call, places: Places) -> Iterator[Edit]:
             yield from edits_of_default(keyword.value)
 
 
+def edits_of_words(node: ast.Call, places: Places) -> Iterator[Edit]:
+    """A call without one of its keywords, or with two words that changed places; and the text that a method tidies as
+    it is."""
+    for one in node.keywords:
+        if one.arg:
+            kept = [places.text(it) for it in [*node.args, *node.keywords] if it is not one]
+            yield "keyword", node, f"{places.text(node.func)}({', '.join(kept)})"
+    for at, (first, second) in enumerate(zip(node.args, node.args[1:])):
+        if not isinstance(first, ast.Starred) and not isinstance(second, ast.Starred):
+            turned = [*node.args[:at], second, first, *node.args[at + 2:], *node.keywords]
+            yield "turned", node, f"{places.text(node.func)}({', '.join(map(places.text, turned))})"
+    if isinstance(node.func, ast.Attribute) and node.func.attr in TIDYING:
+        yield "tidy", node, places.text(node.func.value)
+
+
 def edits_of_default(given: ast.AST | None) -> Iterator[Edit]:
     """Another default: a number one higher, another text, nothing in place of something."""
     if isinstance(given, ast.Constant) and type(given.value) in (int, float):
@@ -198,6 +237,11 @@ def edits_of_default(given: ast.AST | None) -> Iterator[Edit]:
 
 def is_text(node: ast.AST) -> bool:
     return isinstance(node, ast.Expr) and isinstance(node.value, ast.Constant)
+
+
+def is_written(node: ast.List | ast.Set) -> bool:
+    """Whether it stands where names are given values."""
+    return isinstance(node, ast.List) and not isinstance(node.ctx, ast.Load)
 
 
 def is_none(node: ast.AST) -> bool:
