@@ -22,6 +22,16 @@ SAME = ("a abbr b blockquote br caption cite code dd del details div dl dt em hr
 TAGS: Dict[str, str] = {**{it: it for it in SAME}, **HEADINGS, "acronym": "abbr", "tt": "code", "section": "div",
                         "aside": "div", "nav": "div", "figure": "div"}
 VOID = "br", "hr"
+# What parts of lists and tables stand in, and what they end there if its own end was left out. Elsewhere a part is left
+# out: a browser would end by it what is around the description (HTML, "The rules for parsing tokens").
+PARTS: Dict[str, Tuple[Sequence[str], Sequence[str]]] = {
+    "li": (("ul", "ol"), ("li", "p")), **{it: (("dl",), ("dt", "dd", "p")) for it in ("dt", "dd")},
+    **{it: (("tr",), ("td", "th", "p")) for it in ("td", "th")},
+    "tr": (("table", "thead", "tbody"), ("tr", "td", "th", "p")),
+    **{it: (("table",), ("caption", "thead", "tbody", "tr", "td", "th", "p")) for it in ("caption", "thead", "tbody")},
+}
+# nothing but parts stands in these
+OF_PARTS = "table", "thead", "tbody", "tr"
 SIDES, NUMBER, ID = ("left", "center", "right"), re.compile("[0-9]{1,6}"), re.compile(r"[\w.-]{1,100}")
 # characters that take room or join letters, and turn no line
 HARMLESS = frozenset("\n\t\u00a0\u00ad\u200c\u200d")
@@ -72,15 +82,26 @@ class Safe(HTMLParser):
             self.put(f"<{made}>")
         elif not self.is_full:
             more = "".join(attributes(made, given)) if made else ""
-            kept = made if self.has_room(made) and (made != "a" or "href=" in more) else None
+            left = self.room_for(made) if made and (made != "a" or "href=" in more) else None
+            while left is not None and len(self.stack) > left:
+                self.close_last()
+            kept = None if left is None else made
             self.stack.append((tag, kept))
             if kept:
                 self.put(f"<{kept}{more}>", f"</{kept}>")
 
-    def has_room(self, made: Optional[str]) -> bool:
-        """Whether an element may stand here: none of a known tag too deep, and no link in a link."""
-        around = [it for _, it in self.stack if it]
-        return bool(made) and len(around) < MOST_DEEP and not (made == "a" and "a" in around)
+    def room_for(self, made: str) -> Optional[int]:
+        """How many of the open elements stay open around an element that begins; None if it may not stand here: it
+        would be too deep, a link in a link, or a part elsewhere than in its list or table."""
+        parents, ended = PARTS.get(made, ((), ()))
+        around = [(at, it) for at, (_, it) in enumerate(self.stack, 1) if it]
+        while around and around[-1][1] in ended:
+            around.pop()
+        last, parent = around[-1] if around else (0, "")
+        is_here = parent in parents if parents else parent not in OF_PARTS
+        if not is_here or len(around) >= MOST_DEEP or made == "a" and "a" in [it for _, it in around]:
+            return None
+        return last if parents else len(self.stack)
 
     def handle_startendtag(self, tag: str, attrs: Attributes) -> None:
         # in HTML the slash says nothing

@@ -24,7 +24,12 @@ WELL = [
     ('<a href="#part">a</a><p id="part">b</p>', '<a href="#text-part">a</a><p id="text-part">b</p>'),
     ('<p align="center">a</p>', '<p class="to-center">a</p>'), ("<br><hr/>", "<br><hr>"),
     ('<ol start="7"><li>a</ol>', '<ol start="7"><li>a</li></ol>'),
-    ('<td colspan="2" rowspan="3">a</td>', '<td colspan="2" rowspan="3">a</td>'),
+    ('<table><tr><td colspan="2" rowspan="3">a</table>', '<table><tr><td colspan="2" rowspan="3">a</td></tr></table>'),
+    ("<ul><li>a<li><p>b<li>c</ul>", "<ul><li>a</li><li><p>b</p></li><li>c</li></ul>"),
+    ("<dl><dt>a<dd>b<dt>c</dl>d", "<dl><dt>a</dt><dd>b</dd><dt>c</dt></dl>d"),
+    ("<table><caption>a<thead><tr><th>b<tbody><tr><td>c<td>d<tr><td>e</table>",
+     "<table><caption>a</caption><thead><tr><th>b</th></tr></thead>"
+     "<tbody><tr><td>c</td><td>d</td></tr><tr><td>e</td></tr></tbody></table>"),
     ('<input type="checkbox" checked> a <input type="checkbox"> b', "\u2611 a \u2610 b"),
     ('<section><tt>a</tt></section>', "<div><code>a</code></div>")]
 NOTHING_RUNS = [
@@ -36,7 +41,8 @@ NOTHING_RUNS = [
     ('<img src="https://b.example/x.png" alt="built <b>">', "built &lt;b&gt;"),
     ('<img src="data:image/png;base64,x">', ""),
     ('<p id="find">a</p>', '<p id="text-find">a</p>'), ('<p id="a b">a</p>', "<p>a</p>"),
-    ('<td colspan="99999">a</td>', "<td>a</td>"), ("<form><button>a</button></form>", "a"),
+    ('<table><tr><td colspan="99999">a</table>', "<table><tr><td>a</td></tr></table>"),
+    ("<form><button>a</button></form>", "a"),
     ("<!-- a --><?a?><!DOCTYPE a>", ""),
     ("</div></main>a", "a"), ("<div><p>a</div>b</p>", "<div><p>a</p></div>b"), ("<b>a", "<b>a</b>"),
     ('<a href="https://a.example"><a href="https://b.example">b</a></a>',
@@ -67,20 +73,32 @@ def test_a_text_as_it_is_has_no_markup_and_an_end():
     assert made.endswith(safe.MORE) and len(made) <= 5 * safe.MOST_HTML // 4 + 100
 
 
-@pytest.mark.parametrize("round_", range(40))
-def test_no_description_leaves_its_part_of_the_page(round_, chance):
-    """By a parser as browsers have it: of random pieces, all is within the element that is meant for it."""
+def want_it_in_its_part(text):
+    """By a parser as browsers have it: all that is made of a text is within the element that is meant for it."""
     html5lib = want_module("html5lib", "python3-html5lib")
-    pieces = [f"<{end}{tag}{more}>" for tag in (*safe.SAME, *OTHERS) for end in ("", "/")
-              for more in ("", ' href="https://a.example" id="find"')]
-    draw = random.Random(f"{chance.random()} {round_}")
-    text = "".join(draw.choice(pieces) + draw.choice(["", "a", "&lt;", "<!--", "-->", "]]>", '"']) for _ in range(60))
     page = html5lib.parse(f'<main><div class="it">{safe.safe(text)}</div><p id="behind">behind</p></main>',
                           namespaceHTMLElements=False)
     main = page.find("body/main")
     assert [it.get("class") or it.get("id") for it in main] == ["it", "behind"], text
     assert main[1].text == "behind" and {it.tag for it in main[0].iter()} <= {*safe.TAGS.values(), *safe.VOID}
     assert all(it.get("id", "text-").startswith("text-") for it in main[0].iter()), text
+
+
+@pytest.mark.parametrize("text", [
+    "<li><div><li>a</div>b", "<dt><div><dd>a</div>b", "<dd><p><div><dt>a</div>b", "<ul><li><div><p><li>a</div>b</ul>",
+    "<table><div><table>a", "<p><table><p><div><table>a", "<table><tr><td><div><tr>a</div>b", "<tr><div><td>a</div>b"])
+def test_a_part_of_a_list_or_table_ends_nothing_around_it(text):
+    want_it_in_its_part(f"{text}</table><b>c")
+
+
+@pytest.mark.parametrize("round_", range(40))
+def test_no_description_leaves_its_part_of_the_page(round_, chance):
+    """Of random pieces."""
+    pieces = [f"<{end}{tag}{more}>" for tag in (*safe.SAME, *OTHERS) for end in ("", "/")
+              for more in ("", ' href="https://a.example" id="find"')]
+    draw = random.Random(f"{chance.random()} {round_}")
+    want_it_in_its_part("".join(draw.choice(pieces) + draw.choice(["", "a", "&lt;", "<!--", "-->", "]]>", '"'])
+                                for _ in range(60)))
 
 
 @pytest.fixture(scope="module")
