@@ -48,6 +48,8 @@ CAUGHT_BY = {
     "program_each_address_is_localhost": f"{ENDS}::test_serve_listens_where_it_is_asked_to_and_says_where",
     "program_last_client_is_answered_first": ORDER,
     "program_mistake_is_printed_as_it_is": f"{CONTROLS}::test_a_mistake_is_printed_with_its_line_feeds_alone",
+    "program_one_that_waits_is_accepted_before_a_message":
+        "tests/program/test_order.py::test_all_that_wait_are_accepted_before_each_message",
     "program_path_is_printed_as_it_is": f"{CONTROLS}::test_a_path_is_printed_without_controls",
     "program_row_of_one_name_ends_the_server":
         f"{SHUT}::test_an_invalid_row_of_one_name_that_is_looked_up_ends_no_server",
