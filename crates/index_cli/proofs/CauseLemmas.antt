@@ -1,5 +1,5 @@
 -- Each fault of the store that is told has a call that failed.
-use Rattle.std.proofs.Common.{◌≡◌, ◌∙◌, ◌+◌, ℕ, inl, inr, refl, sym, ap, List, [], ◌∷◌, ◌++◌, length, Option, append_assoc, append-nil, arith}
+use Rattle.std.proofs.Common.{◌≡◌, ◌∙◌, ◌+◌, ℕ, true, inl, inr, refl, sym, ap, List, [], ◌∷◌, ◌++◌, length, Option, append_assoc, append-nil, arith}
 use Rattle.std.proofs.lemmas.Bool.{cases_lt}
 use Rattle.index_io.specs.Counts.{FailsAtMostOnce, HasFailed, last_count}
 use Rattle.index_rules.specs.declared.answer.Answer.{Answer}
@@ -9,6 +9,7 @@ use Rattle.index_rules.specs.declared.answer.Fault.TheVariants.{OutOfMemory, Sto
 use Rattle.index_rules.specs.StoreFaults.{CountsStoreFault, answers_store_fault}
 use Rattle.index_rules.specs.Tables.{Tables}
 use Rattle.index_rules.specs.declared.standing.Standing.{Standing}
+use Rattle.index_desk.specs.Looks.{NeverFalls}
 use Rattle.index_json.proofs.OnLiterals.{answers_on_literals}
 use Rattle.index_json.specs.AnswerText.{answer_text_of}
 use Rattle.index_json.specs.StandingText.{standing_text_of}
@@ -45,6 +46,19 @@ pub HaveFailed-push : (n m f0 f1 f2 : ℕ) → HaveFailed n f0 f1 → HaveFailed
 HaveFailed-push n m f0 f1 f2 (inl more) (inl then) = inl (omega (arith, more, then))
 HaveFailed-push n m f0 f1 f2 (inr last) (inl then) = inr (omega (arith, last, then))
 HaveFailed-push n m f0 f1 f2 before (inr last) = inr last
+
+-- a fault of the store was counted
+pub store_counted : (f0 f1 : ℕ) → CountsStoreFault f0 f1 true → HaveFailed 1 f0 f1
+store_counted f0 f1 next = elim (cases_lt last_count (f0 + 1)) [
+  | inl far ↦ inr (omega (arith, next, far))
+  | inr near ↦ inl (omega (arith, next, near))
+]
+
+-- so it was since then
+pub failed_since : (f0 f1 f2 : ℕ) → NeverFalls f0 f1 → HaveFailed 1 f1 f2 → HaveFailed 1 f0 f2
+failed_since f0 f1 f2 (inl more) (inl then) = inl (omega (arith, more, then))
+failed_since f0 f1 f2 (inr last) (inl then) = inr (omega (arith, last, then))
+failed_since f0 f1 f2 earlier (inr last) = inr last
 
 -- ---- texts
 

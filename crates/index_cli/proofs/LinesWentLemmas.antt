@@ -257,9 +257,6 @@ module _ {S : Type 0} (g : Ghosts S) where
 
 -- ---- at an end, after a look that changed no table
 
-pub leaves_none : {S : Type 0} (g : Ghosts S) (s : S) → LeavesTables g s s
-leaves_none g s = record { unchanged = λ _. refl; honest = λ it. it; clean = λ it. it; crash = λ _ left. left }
-
 module _ {S : Type 0} (g : Ghosts S) (first now new : S) (looked : LeavesTables g now new) where
   module _ (lines : List (List ℕ)) (text : List ℕ) (it : LinesSoFar g first now lines text) where
     told_then : g.IsHonest new → HasOneBearer (g.tables first) → TextAnswersLines by_tables (g.tables first) lines text (g.tables new)

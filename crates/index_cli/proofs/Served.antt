@@ -3,6 +3,7 @@ use Rattle.std.proofs.Common.{◌≡◌, ℕ, List, [], ◌∷◌, Option, Some,
 use Rattle.std.specs.Prelude.{IfSome, unwrap_or}
 use Rattle.index_rules.specs.declared.books.Books.{Ghosts}
 use Rattle.index_http.specs.declared.connection.IoEnd.TheVariants.{OutOfMemory}
+use Rattle.index_desk.proofs.LeavesLemmas.{leaves_none}
 use Rattle.index_cli.specs.Connections.{AreOn, Came, Closed, Exchange, IsRest, IsUnsent, KnownList, KnownReplies, Loses, no_faults}
 use Rattle.index_http.specs.Steps.{at_desk}
 use Rattle.index_cli.specs.Steps.{on_connections}
@@ -46,7 +47,7 @@ unasked g s at given = record {
   lasts = λ honest clean one. inl (honest, refl);
   asks = record {
     ended = Err OutOfMemory;
-    asks = inl (record { unchanged = λ _. refl; honest = λ it. it; clean = λ it. it; crash = λ _ left. left }, refl, refl);
+    asks = inl (leaves_none g s, refl, refl);
     cause = tt;
   };
   keeps = record { one_bearer = λ _ it. it; sound = λ _ it. it; honest = λ it. it; clean = λ it. it };

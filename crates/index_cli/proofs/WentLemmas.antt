@@ -15,13 +15,14 @@ use Rattle.index_rules.proofs.StandsOn.{CarriesOn-answer, sound_when_legal}
 use Rattle.index_desk.specs.ByRules.{StandsAfter}
 use Rattle.index_desk.specs.Crashes.{AnswerLeavesTables, HasCall}
 use Rattle.index_desk.specs.Invariants.{KeepsInvariants}
-use Rattle.index_desk.specs.Looks.{LeavesTables}
+use Rattle.index_desk.specs.Looks.{LeavesTables, NeverFalls}
 use Rattle.index_desk.specs.Rules.{by_history, by_tables}
 use Rattle.index_desk.specs.Takes.{Takes, answers_fault}
 use Rattle.index_http.specs.Exchanges.{IsFaultless}
 use Rattle.index_http.specs.Steps.{StaysHonest, at_desk}
 use Rattle.index_http.proofs.Failures.{failure_map}
 use Rattle.index_http.proofs.Histories.{reply_ends_by_history, faultless_after}
+use Rattle.index_desk.proofs.LeavesLemmas.{never_falls}
 use Rattle.index_cli.specs.Connections.{Exchange}
 use Rattle.index_cli.specs.DeskAnswers.{DeskAnswersConnections}
 use Rattle.index_cli.specs.ServesFront.{AcceptsNothing}
@@ -116,6 +117,12 @@ module _ {S : Type 0} (g : Ghosts S) (now new : S) where
   of_call call Already took clean = (inr (λ honest. took.settles.unchanged honest (λ is. cc is)), λ is. cc is)
   of_call call (Refused refusal) took clean = (inr (λ honest. took.settles.unchanged honest (λ is. cc is)), λ is. cc is)
   of_call call (Fault fault) took clean = (inr (λ honest. took.settles.unchanged honest (λ is. cc is)), λ is. cc is)
+
+  -- the count of failed stores does not fall
+  pub asks_count : (exchange : Exchange) → AsksOne exchange (LeavesTables g now new) (Takes g now new) → NeverFalls (g.stores now) (g.stores new)
+  asks_count exchange asks =
+      (AsksOne-choice (NeverFalls (g.stores now) (g.stores new)) (LeavesTables g now new) (λ it. Unit {0}) (Takes g now new) (λ it call answer. Unit {0})
+      (λ looked. (looked.counted, tt)) (λ call answer took. (never_falls _ _ _ took.settles.stores, tt)) exchange asks).0
 
   pub stays_or_quiet : (exchange : Exchange) → g.IsClean new → AsksOne exchange (LeavesTables g now new) (Takes g now new) → Stays ⊎ (Quiet × AcceptsNothing exchange)
   stays_or_quiet exchange clean asks =

@@ -1,9 +1,11 @@
 //! Answers connections, one after the other.
 ghost use Rattle.std.specs.Duration.{as_nanos};
-ghost use Rattle.std.specs.Prelude.{◌≡◌, ◌≢◌, ◌<◌, ◌/◌, true, ℕ, Err, None};
+ghost use Rattle.std.specs.Prelude.{◌≡◌, ◌≢◌, ◌/◌, true, Err, None};
 ghost use Rattle.std.specs.Prelude.{IfErr, IfOk, IfSome, IsErrOf, OnErr, OnOk};
+ghost use Rattle.index_rules.specs.StoreFaults.{CountsStoreFault};
 ghost use Rattle.index_desk.specs.Invariants.{KeepsInvariants};
 ghost use Rattle.index_desk.specs.Looks.{LeavesTables};
+ghost use Rattle.index_cli.specs.Causes.{HaveFailed};
 ghost use Rattle.index_cli.specs.Connections.{AddsReply, AreOn, IsRest, exchange_of, faults_of};
 ghost use Rattle.index_http.specs.Steps.{at_desk};
 ghost use Rattle.index_cli.specs.DeskAnswers.{DeskAnswersConnections};
@@ -48,10 +50,11 @@ pub fn answer_connections<C: Connections, B: CachesAnswers>(
     ensures keeps { KeepsInvariants B.Books desk.old desk.new }
 
     // It returns `ReadFault` only if the next connection could not be accepted, `Clock` only if no moment is given, and
-    // `Store` only if the store failed.
+    // `Store` only if the store failed meanwhile.
     ensures read { result ≡ Err ServeEnd.ReadFault → C.CannotAccept connections.new }
     ensures clock { result ≡ Err ServeEnd.Clock → at ≡ None }
-    ensures store { result ≡ Err ServeEnd.Store → 0 < B.failures desk.new }
+    ensures store { result ≡ Err ServeEnd.Store
+        → HaveFailed 1 (B.stores desk.old) (B.stores desk.new) }
 {
     let mut was_shut = false;
     for count in 0..requests {
@@ -139,7 +142,7 @@ fn answer_accepted<C: Connections, B: CachesAnswers>(
 fn is_shut<B: CachesAnswers>(alloc: Global, desk: &mut Desk<B>, failures: u64) -> bool
     ensures leaves { LeavesTables B.Books desk.old desk.new }
     ensures idle { B.failures desk.old ≡ failures → desk.new ≡ desk.old }
-    ensures store { result ≡ true → 0 < B.failures desk.new }
+    ensures store { result ≡ true → HaveFailed 1 (B.stores desk.old) (B.stores desk.new) }
 {
     if desk.failure_count() == failures {
         return false;
@@ -150,7 +153,7 @@ fn is_shut<B: CachesAnswers>(alloc: Global, desk: &mut Desk<B>, failures: u64) -
 /// Whether looking up a name fails with `Store`.
 fn fails_at<B: CachesAnswers>(alloc: Global, desk: &mut Desk<B>, name: &[u8]) -> bool
     ensures leaves { LeavesTables B.Books desk.old desk.new }
-    ensures store { result ≡ true → 0 < B.failures desk.new }
+    ensures store { result ≡ true → CountsStoreFault (B.stores desk.old) (B.stores desk.new) true }
 {
     let Ok(name) = normal(alloc, name) else {
         return false;

@@ -1,6 +1,6 @@
 -- Looks at the tables: what they find, and that they change nothing.
-use Rattle.std.specs.Prelude.{◌≡◌, false, Result, Ok, IfErr, IfOk, OnOk}
-use Rattle.index_io.specs.Counts.{FailsAtMostOnce, HasFailed}
+use Rattle.std.specs.Prelude.{◌≡◌, ◌≤◌, ◌⊎◌, ℕ, false, Result, Ok, IfErr, IfOk, OnOk}
+use Rattle.index_io.specs.Counts.{FailsAtMostOnce, HasFailed, last_count}
 use Rattle.index_rules.specs.declared.answer.Fault.{Fault}
 use Rattle.index_rules.specs.declared.answer.Fault.TheVariants.{Store}
 use Rattle.index_rules.specs.declared.books.Books.{Ghosts}
@@ -13,13 +13,18 @@ use Rattle.index_rules.specs.StoreFaults.{CountsStoreFault, fails_by_store, ends
 use Rattle.index_rules.specs.Walks.{has_fault}
 use Rattle.index_desk.specs.Rules.{Rules, by_history, by_tables}
 
--- no table changed, the store is honest or clean only if it was before, and a crash leaves what it
--- could have left before
+-- a count has not fallen, or is at its last value
+abbrev pub NeverFalls : ℕ → ℕ → Type 0
+NeverFalls before now = (before ≤ now) ⊎ (last_count ≤ now)
+
+-- No table changed, the store is honest or clean only if it was before, and a crash leaves what it
+-- could have left before. The count of failed stores has not fallen.
 pub record LeavesTables {S : Type 0} (g : Ghosts S) (old new : S) : Type 0 where
   pub unchanged : g.IsHonest new → g.tables new ≡ g.tables old
   pub honest : g.IsHonest new → g.IsHonest old
   pub clean : g.IsClean new → g.IsClean old
   pub crash : (T : Tables) → g.may_leave new T → g.may_leave old T
+  pub counted : NeverFalls (g.stores old) (g.stores new)
 
 -- a look at the tables
 pub record ReadsTables {S X : Type 0} (g : Ghosts S) (old new : S)

@@ -17,7 +17,8 @@ use Rattle.index_rules.specs.declared.answer.Fault.TheVariants as fault
 use Rattle.index_rules.specs.declared.books.Books.{Ghosts}
 use Rattle.index_rules.specs.declared.rows.WalkEnd.{WalkEnd}
 use Rattle.index_rules.specs.declared.rows.WalkEnd.TheVariants as walk
-use Rattle.index_desk.specs.Looks.{ReadsTables, WalksTables}
+use Rattle.index_desk.specs.Looks.{LeavesTables, ReadsTables, WalksTables}
+use Rattle.index_desk.proofs.LeavesLemmas.{never_falls}
 use Rattle.index_desk.specs.Projects.{WalksProject}
 use Rattle.index_pages.specs.Rest.{Rest, IsWholeOf}
 use Rattle.index_pages.specs.Ends.{WritesPage, SinkState, count_of}
@@ -235,7 +236,12 @@ keeps g old new read has_fault same look = record {
   clean = look.clean;
   lasts = λ ok. lasts_in read (g.IsHonest old → g.IsClean new → g.IsHonest new) look.lasts (same ok);
   crash = look.crash;
+  counted = never_falls _ _ _ look.stores;
 }
+
+-- so a pass leaves them
+pub keeps_leaves : {S : Type 0} (g : Ghosts S) (old new : S) (has_fault : Bool) → KeepsTables g old new has_fault → LeavesTables g old new
+keeps_leaves g old new has_fault it = record { unchanged = it.unchanged; honest = it.honest; clean = it.clean; crash = it.crash; counted = it.counted }
 
 is_measured : (result : Result (Option ℕ) TextEnd) → is_err (measured_by result) ≡ false → is_err (look_of_text result) ≡ false
 is_measured (Ok size) ok = refl

@@ -19,6 +19,7 @@ use Rattle.index_http.specs.Shows.{LookShows}
 use Rattle.index_http.specs.Steps.{SinkStep, at_desk}
 use Rattle.index_http.specs.declared.connection.IoEnd.{IoEnd}
 use Rattle.index_http.specs.declared.get.ToShow.{ToShow}
+use Rattle.index_desk.proofs.LeavesLemmas.{leaves_on, look_leaves}
 use Rattle.index_http.proofs.EndLemmas.{ends_shown_map, shown_map}
 use Rattle.index_http.proofs.Failures.{lasts_map}
 
@@ -36,12 +37,7 @@ found_and_sent g old mid new sink is_head is_page what IsReply result looks show
   shown = λ honest clean.
       let then = looks.look.lasts honest (shows.leaves.clean clean) in
       ends_shown_map _ _ _ _ _ _ _ (looks.found then) (rw (looks.look.unchanged then, looks.look.kept) at (shows.shown then clean));
-  leaves = record {
-    unchanged = λ honest. shows.leaves.unchanged honest ∙ looks.look.unchanged (shows.leaves.honest honest);
-    honest = λ honest. looks.look.honest (shows.leaves.honest honest);
-    clean = λ clean. looks.look.clean (shows.leaves.clean clean);
-    crash = λ T left. looks.look.crash T (shows.leaves.crash T left);
-  };
+  leaves = leaves_on _ _ _ _ (look_leaves _ _ _ _ looks.look) shows.leaves;
   sends = record {
     write_fault = shows.sends.write_fault;
     writes = shows.sends.writes;

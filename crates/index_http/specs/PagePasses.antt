@@ -14,7 +14,7 @@ use Rattle.index_rules.specs.declared.answer.Fault.TheVariants as fault
 use Rattle.index_rules.specs.declared.books.Books.{Ghosts}
 use Rattle.index_rules.specs.declared.rows.WalkEnd.{WalkEnd}
 use Rattle.index_rules.specs.declared.rows.WalkEnd.TheVariants as walk_end
-use Rattle.index_desk.specs.Looks.{ReadsTables}
+use Rattle.index_desk.specs.Looks.{NeverFalls, ReadsTables}
 use Rattle.index_desk.specs.Projects.{WalksProject}
 use Rattle.index_pages.specs.Ends.{IsCut, IsWhole, SinkState, most_bytes}
 use Rattle.index_pages.specs.Rest.{Rest}
@@ -142,6 +142,8 @@ pub record KeepsTables {S : Type 0} (g : Ghosts S) (old new : S) (has_fault : Bo
   pub lasts : has_fault ≡ false → g.IsHonest old → g.IsClean new → g.IsHonest new
   -- a crash leaves only what it could have left before
   pub crash : (T : Tables) → g.may_leave new T → g.may_leave old T
+  -- the count of failed stores does not fall
+  pub counted : NeverFalls (g.stores old) (g.stores new)
 
 -- ---- what each pass does, if the store was honest before and is clean after
 

@@ -38,6 +38,7 @@ impl<B: Books> Desk<B> {
     ///
     /// The whole report is made before the first byte is written. After `OutOfMemory`, and after `Store` if the books
     /// fail, nothing was written. After `WriteFault` that many bytes were.
+    #[tactic(auto, using(crate::proofs::LeavesLemmas::look_leaves))]
     pub fn report<S: Sink>(&mut self, alloc: Global, sink: &mut S) -> Result<(), ReportFault>
         // Holds also if a fault has shut the store.
         ensures report { B.IsHonest self.old → B.IsClean self.new → Reports

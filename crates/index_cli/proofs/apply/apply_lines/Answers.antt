@@ -3,7 +3,8 @@ use Rattle.index_desk.proofs.InvariantLemmas.{keeps_on}
 use Rattle.index_cli.specs.declared.end.LineEnd.TheVariants.{ReadFault, WriteFault}
 use Rattle.index_cli.proofs.CauseLemmas.{HaveFailed-push, counted_push, faults_before, faults_push, none_failed}
 use Rattle.index_cli.proofs.Cuts.{Charges-trans, PartIsTaken-none}
-use Rattle.index_cli.proofs.LinesWentLemmas.{leaves_none, lines_end, lines_none, lines_push}
+use Rattle.index_desk.proofs.LeavesLemmas.{leaves_none}
+use Rattle.index_cli.proofs.LinesWentLemmas.{lines_end, lines_none, lines_push}
 use Rattle.index_cli.proofs.Progress.{Progress-during, Progress-none, Progress-part, Progress-push, Progress-taken, Progress-whole}
 use Rattle.index_cli.proofs.RunEnds.{LinesEnd-before, failed_or_spent}
 use Rattle.index_cli.proofs.apply.apply_lines.Goals as goal

@@ -1,5 +1,6 @@
 use Rattle.std.proofs.Common.{inl, inr, refl, rules}
 use Rattle.index_rules.specs.declared.answer.Answer.TheVariants as answer
+use Rattle.index_desk.proofs.LeavesLemmas.{look_leaves}
 use Rattle.index_cli.proofs.CauseLemmas.{answer_counted, counted_memory, fault_causes, standing_causes}
 use Rattle.index_cli.proofs.reply.known_reply.Goals as goal
 
@@ -7,7 +8,7 @@ pub returns-in-Err : goal.returns-in-Err
 returns-in-Err g c = record {
   reply = search rules;
   lasts = λ honest clean. inr ((c.in-Err.fault, c.answer_text.ensures), inr (c.in-Err.fault, c.answer_text.ensures));
-  leaves = search rules;
+  leaves = look_leaves _ _ _ _ c.in-Err.ensures.look;
   causes = record {
     told = fault_causes c.in-Err.fault _ _ _ c.answer_text.ensures c.in-Err.ensures.look.once c.in-Err.ensures.look.store;
     kept = search rules;
@@ -22,7 +23,7 @@ pub returns-in-Ok-text : goal.returns-in-Ok-text
 returns-in-Ok-text g c = record {
   reply = search rules;
   lasts = λ honest clean. inl (c.in-Ok.ensures.look.lasts honest clean);
-  leaves = search rules;
+  leaves = look_leaves _ _ _ _ c.in-Ok.ensures.look;
   causes = record {
     told = standing_causes c.in-Ok.standing _ _ _ c.in-Ok-text.ensures.text.value c.in-Ok.ensures.look.once;
     kept = search rules;

@@ -1,5 +1,6 @@
-use Rattle.std.proofs.Common.{inl, refl, rules}
+use Rattle.std.proofs.Common.{inl, rules}
 use Rattle.std.proofs.lemmas.Result.{IfOk-weaker}
+use Rattle.index_desk.proofs.LeavesLemmas.{leaves_none}
 use Rattle.index_cli.proofs.Calls.{AsksKept-long, AsksKept-read}
 use Rattle.index_cli.proofs.FaultTexts.{honest_or_mapped}
 use Rattle.index_cli.proofs.Progress.{KeptLineIsAnswered-read}
@@ -9,8 +10,7 @@ pub returns-then-size-gt-LONGEST_LINE : goal.returns-then-size-gt-LONGEST_LINE
 returns-then-size-gt-LONGEST_LINE g c = record {
   reply = search rules;
   lasts = λ honest clean. inl honest;
-  asks = AsksKept-long _ _ c.args.size _ _ c.if-size-gt-LONGEST_LINE.true
-      (record { unchanged = λ _. refl; honest = λ h. h; clean = λ h. h; crash = λ _ left. left });
+  asks = AsksKept-long _ _ c.args.size _ _ c.if-size-gt-LONGEST_LINE.true (leaves_none _ _);
   leaves = search rules;
   causes = search rules;
   stores = search rules;

@@ -1,18 +1,21 @@
 use Rattle.std.proofs.Common.{◌≡◌, ◌∙◌, ◌<◌, ℕ, Result, Err, inl, refl, rules, subst, sym}
+use Rattle.index_desk.proofs.LeavesLemmas.{never_fell, none_fell}
 use Rattle.index_desk.proofs.InvariantLemmas.{keeps_on, looks_keep}
 use Rattle.index_cli.specs.declared.end.ServeEnd.{ServeEnd}
 use Rattle.index_http.specs.Steps.{at_desk}
 use Rattle.index_cli.specs.Connections.{AreOn}
 use Rattle.index_cli.specs.Serving.{IsCount}
 use Rattle.index_cli.specs.DeskAnswers.{DeskAnswersConnections}
+use Rattle.index_cli.proofs.CauseLemmas.{failed_since}
 use Rattle.index_cli.proofs.Served.{are_on, are_push}
-use Rattle.index_cli.proofs.WentLemmas.{served, served_none, served_push}
+use Rattle.index_cli.proofs.WentLemmas.{asks_count, served, served_none, served_push}
 use Rattle.index_cli.proofs.serve.answer_connections.Goals as goal
 
 pub loop-count-init : goal.loop-count-init
 loop-count-init g c = record {
   served = served_none _ _ (refl, refl) _ _ g.met.B.Books.settled;
   keeps = search rules;
+  counted = none_fell _;
   shut = search rules;
 }
 
@@ -25,11 +28,13 @@ loop-count-preserved g c =
     let next = c.in_ok-answer_next.ensures.answers in
     let more = are_push C.coming C.replies B _ _ c.args.connections.now _ _ _ next in
     let kept = next.answers.keeps in
+    let counted = never_fell _ _ _ invariant.counted (asks_count B _ _ next.exchange next.answers.asks) in
     let idle = λ (same : B.failures c.answer_next.new.desk ≡ B.failures c.loop-count.desk). c.is_shut-was_shut.ensures.idle (same ∙ sym c.failure_count-failures.ensures) in
     record {
       served = served_push B (g.met.B.Books.settled) _ _ next.exchange more _ next.is_given _ _ _ _ _ invariant.keeps next.answers looked idle invariant.served;
       keeps = keeps_on _ _ _ _ invariant.keeps (keeps_on _ _ _ _ kept (looks_keep _ _ _ looked));
-      shut = c.is_shut-was_shut.ensures.store;
+      counted = never_fell _ _ _ counted looked.counted;
+      shut = λ is. failed_since _ _ _ counted (c.is_shut-was_shut.ensures.store is);
     }
 
 -- ---- at an end

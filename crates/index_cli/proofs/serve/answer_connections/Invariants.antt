@@ -1,5 +1,7 @@
-use Rattle.std.proofs.Common.{◌≡◌, ◌<◌, true}
+use Rattle.std.proofs.Common.{◌≡◌, true}
 use Rattle.index_desk.specs.Invariants.{KeepsInvariants}
+use Rattle.index_desk.specs.Looks.{NeverFalls}
+use Rattle.index_cli.specs.Causes.{HaveFailed}
 use Rattle.index_cli.proofs.Served.{AreSoFar}
 use Rattle.index_cli.proofs.WentLemmas.{ServedSoFar}
 use Rattle.index_cli.proofs.serve.answer_connections.Given as goal
@@ -11,5 +13,6 @@ invariant-loop-count g l =
     record {
       served : ServedSoFar g.B.Books are l.fn.at l.fn.desk l.desk l.count;
       keeps : KeepsInvariants g.B.Books l.fn.desk l.desk;
-      shut : l.was_shut ≡ true → 0 < g.B.Books.failures l.desk;
+      counted : NeverFalls (g.B.Books.stores l.fn.desk) (g.B.Books.stores l.desk);
+      shut : l.was_shut ≡ true → HaveFailed 1 (g.B.Books.stores l.fn.desk) (g.B.Books.stores l.desk);
     }

@@ -4,6 +4,7 @@ use Rattle.index_rules.specs.Verdict.{Verdict}
 use Rattle.index_rules.specs.declared.answer.Answer.{Answer}
 use Rattle.index_rules.specs.declared.answer.Answer.TheVariants.{Accepted, Already, Refused, Fault}
 use Rattle.index_desk.specs.Crashes.{Lasts}
+use Rattle.index_desk.proofs.LeavesLemmas.{leaves_none}
 use Rattle.index_message.specs.Resources.{is_head, is_put}
 use Rattle.index_http.specs.Exchanges.{call_of}
 use Rattle.index_http.specs.Replies.{answer_reply, reply_of, reply_text}
@@ -32,7 +33,7 @@ returns-in_default g c =
             λ _. refl,
           )
           c.send_reply.ensures.sent;
-      asks = rw (c.requires, none) (record { unchanged = λ _. refl; honest = λ h. h; clean = λ h. h; crash = λ _ left. left });
+      asks = rw (c.requires, none) (leaves_none g.B.Books c.args.desk.now);
       memory = λ none. absurd (sent_memory _ _ _ _ c.send_reply.ensures.sent none);
       whole = λ _. refl;
       unasked = λ faulty. cc faulty;

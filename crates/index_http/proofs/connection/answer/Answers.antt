@@ -1,4 +1,5 @@
 use Rattle.std.proofs.Common.{◌≡◌, ◌∙◌, ap, false, inl, refl, rules, sym, true}
+use Rattle.index_desk.proofs.LeavesLemmas.{leaves_none}
 use Rattle.index_message.specs.Resources.{is_reading}
 use Rattle.index_http.specs.Ends.{Stands}
 use Rattle.index_http.specs.Replies.{reply_text}
@@ -12,7 +13,7 @@ returns-in-Faulty g c = record {
   tables = λ honest clean one.
       rw c.in-Faulty.is
       (sent_ends _ _ _ _ _ _ (g.B.Books.tables c.args.desk.now, (ap (reply_text c.in-Faulty.is_head) c.message_reply.ensures, refl), λ _. refl) c.send_reply.ensures.sent);
-  asks = rw c.in-Faulty.is (record { unchanged = λ _. refl; honest = λ h. h; clean = λ h. h; crash = λ _ left. left });
+  asks = rw c.in-Faulty.is (leaves_none g.B.Books c.args.desk.now);
   memory = search rules;
   whole = λ none. absurd (sent_memory _ _ _ _ c.send_reply.ensures.sent none);
   unasked = λ faulty. refl;

@@ -1,4 +1,5 @@
-use Rattle.std.proofs.Common.{inl, refl, rules}
+use Rattle.std.proofs.Common.{inl, refl}
+use Rattle.index_desk.proofs.LeavesLemmas.{leaves_none}
 use Rattle.index_http.proofs.EndLemmas.{ends_shown_map, sent_memory, shown_ends, shown_map}
 use Rattle.index_http.proofs.Failures.{lasts_map}
 use Rattle.index_http.proofs.ShowLemmas.{project_shown}
@@ -7,7 +8,7 @@ use Rattle.index_http.proofs.get.send_shown.Goals as goal
 pub returns-in-Found-clause-shown : goal.returns-in-Found-clause-shown
 returns-in-Found-clause-shown g c = rw c.in-Found.is (record {
   shown = λ honest clean. shown_ends _ _ _ _ _ _ _ _ c.reply.ensures refl c.send_reply.ensures.sent;
-  leaves = search rules;
+  leaves = leaves_none _ _;
   sends = c.send_reply.ensures.sends;
   stores = λ is. absurd (sent_memory _ _ _ _ c.send_reply.ensures.sent is);
   lasts = λ honest clean. inl (honest, refl);

@@ -1,4 +1,5 @@
 use Rattle.std.proofs.Common.{◌≡◌, ◌∙◌, ap, inr, rules}
+use Rattle.index_desk.proofs.LeavesLemmas.{look_leaves}
 use Rattle.index_message.specs.Resources.{is_head}
 use Rattle.index_http.proofs.EndLemmas.{fault_ends, fault_stores}
 use Rattle.index_http.proofs.Failures.{look_failed}
@@ -17,7 +18,7 @@ returns-in-Err-clause-shown g c =
     record {
       shown = λ honest clean.
           rw (← same_head) (fault_ends _ _ _ _ _ _ _ (λ store. inr (c.in-Err.ensures.shows.look.store store)) c.send_fault.ensures.told);
-      leaves = search rules;
+      leaves = look_leaves _ _ _ _ c.in-Err.ensures.shows.look;
       sends = search rules;
       stores = fault_stores _ _ _ _ _ _ _ c.send_fault.ensures.told c.in-Err.ensures.shows.look.stores;
       lasts = λ honest clean. inr (look_failed _ _ _ _ _ _ c.send_fault.ensures.told);

@@ -1,4 +1,5 @@
 use Rattle.std.proofs.Common.{◌∙◌, ap, inl, inr, sym, refl, Some, None, rules}
+use Rattle.index_desk.proofs.LeavesLemmas.{leaves_none, leaves_on, look_leaves}
 use Rattle.index_http.specs.Replies.{file_reply}
 use Rattle.index_http.proofs.EndLemmas.{fault_ends, fault_stores, sent_memory, shown_ends}
 use Rattle.index_http.proofs.Failures.{look_failed}
@@ -8,7 +9,7 @@ pub returns-in-Some : goal.returns-in-Some
 returns-in-Some g c = record {
   shown = λ honest clean.
       shown_ends _ _ _ _ _ _ _ _ (c.file_reply.ensures ∙ ap file_reply c.bytes.ensures) (Some c.in-Some.body.now, sym (c.in-Some.ensures honest), refl) c.send_reply.ensures.sent;
-  leaves = search rules;
+  leaves = leaves_none _ _;
   sends = search rules;
   stores = λ is. absurd (sent_memory _ _ _ _ c.send_reply.ensures.sent is);
   lasts = λ honest clean. inl (honest, refl);
@@ -19,7 +20,7 @@ returns-in-Ok-Some g c = record {
   shown = λ honest clean.
       let body = rw c.in-Ok-Some.field-0-is at (c.in-Ok-Some.ensures.looks.found (c.in-Ok-Some.ensures.looks.look.lasts honest (c.cache_body.ensures.clean clean))) in
       shown_ends _ _ _ _ _ _ _ _ (c.file_reply-in-Ok-Some.ensures ∙ ap file_reply c.bytes-in-Ok-Some.ensures) (Some c.in-Ok-Some.body, body, refl) c.send_reply-sent.ensures.sent;
-  leaves = search rules;
+  leaves = leaves_on _ _ _ _ (look_leaves _ _ _ _ c.in-Ok-Some.ensures.looks.look) (look_leaves _ _ _ _ c.cache_body.ensures);
   sends = search rules;
   stores = λ is. absurd (sent_memory _ _ _ _ c.send_reply-sent.ensures.sent is);
   lasts = λ honest clean.
@@ -32,7 +33,7 @@ returns-in-Ok-None g c = record {
   shown = λ honest clean.
       let none = rw c.in-Ok-None.field-0-is at (c.in-Ok-None.ensures.looks.found (c.in-Ok-None.ensures.looks.look.lasts honest clean)) in
       shown_ends _ _ _ _ _ _ _ _ c.refusal_reply.ensures (None, none, refl) c.send_reply-in-Ok-None.ensures.sent;
-  leaves = search rules;
+  leaves = look_leaves _ _ _ _ c.in-Ok-None.ensures.looks.look;
   sends = search rules;
   stores = λ is. absurd (sent_memory _ _ _ _ c.send_reply-in-Ok-None.ensures.sent is);
   lasts = λ honest clean. inl (c.in-Ok-None.ensures.looks.look.lasts honest clean, c.in-Ok-None.ensures.looks.look.kept);
@@ -42,7 +43,7 @@ pub returns-in-Err : goal.returns-in-Err
 returns-in-Err g c = record {
   shown = λ honest clean.
       fault_ends _ _ _ _ _ _ _ (λ store. inr (c.in-Err.ensures.looks.look.store store)) c.send_fault.ensures.told;
-  leaves = search rules;
+  leaves = look_leaves _ _ _ _ c.in-Err.ensures.looks.look;
   sends = search rules;
   stores = fault_stores _ _ _ _ _ _ _ c.send_fault.ensures.told c.in-Err.ensures.looks.look.stores;
   lasts = λ honest clean. inr (look_failed _ _ _ _ _ _ c.send_fault.ensures.told);

@@ -1,5 +1,7 @@
 use Rattle.std.proofs.Common.{◌≤◌, inl, inr, refl, sym, length}
+use Rattle.index_desk.proofs.LeavesLemmas.{leaves_none}
 use Rattle.index_pages.specs.Ends.{most_bytes}
+use Rattle.index_http.proofs.PassLemmas.{keeps_leaves}
 use Rattle.index_http.proofs.PageLemmas.{less_behind, sends_behind}
 use Rattle.index_http.proofs.page_replies.send_page.Goals as goal
 
@@ -22,3 +24,12 @@ returns-in-Err-clause-lasts g c = λ honest clean there. inl (honest, refl)
 
 pub returns-then-is_head-clause-lasts : goal.returns-then-is_head-clause-lasts
 returns-then-is_head-clause-lasts g c = λ honest clean there. inl (honest, refl)
+
+pub returns-clause-leaves : goal.returns-clause-leaves
+returns-clause-leaves g c = keeps_leaves _ _ _ _ c.send_text.ensures.keeps
+
+pub returns-in-Err-clause-leaves : goal.returns-in-Err-clause-leaves
+returns-in-Err-clause-leaves g c = leaves_none _ _
+
+pub returns-then-is_head-clause-leaves : goal.returns-then-is_head-clause-leaves
+returns-then-is_head-clause-leaves g c = leaves_none _ _

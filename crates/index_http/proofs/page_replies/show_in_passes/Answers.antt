@@ -1,10 +1,12 @@
 use Rattle.std.proofs.Common.{◌≡◌, ◌∙◌, ap, false, inl, inr, refl, rules, subst, Ok, Err}
 use Rattle.std.specs.Prelude.{is_err}
 use Rattle.index_caching.specs.Pages.{page_in}
+use Rattle.index_desk.proofs.LeavesLemmas.{leaves_on}
 use Rattle.index_http.specs.Replies.{page_reply}
 use Rattle.index_http.specs.PagePasses.{MeasuresPage}
 use Rattle.index_http.proofs.EndLemmas.{fault_ends, fault_memory, sent_memory, shown_ends}
 use Rattle.index_http.proofs.Failures.{less_shows, look_failed}
+use Rattle.index_http.proofs.PassLemmas.{keeps_leaves}
 use Rattle.index_http.proofs.PageLemmas.{measured, shows_measured, unmeasurable, unmeasured}
 use Rattle.index_http.proofs.page_replies.show_in_passes.Goals as goal
 
@@ -20,7 +22,7 @@ returns-in-Ok-Some g c = record {
       let same = c.length_of.ensures.keeps.unchanged after in
       shown_ends _ _ _ _ (page_reply c.args.served there.bytes) _ _ _ refl (shows_measured c.args.served _ _ there)
       (c.send_page.ensures.sent after clean (record { bytes = there.bytes; is = rw same there.is; size = there.size; within = there.within }));
-  leaves = search rules;
+  leaves = leaves_on _ _ _ _ (keeps_leaves _ _ _ _ c.length_of.ensures.keeps) c.send_page.ensures.leaves;
   sends = search rules;
   stores = λ is. let told = rw is at c.send_page.ensures.told in cc told;
   lasts = λ honest clean.
@@ -42,7 +44,7 @@ returns-in-Ok-None g c = record {
   shown = λ honest clean.
       let none = unmeasured _ _ _ (rw c.in-Ok-None.field-0-is at (c.in-Ok-None.ensures.measured honest clean)) in
       shown_ends _ _ _ _ _ _ _ _ c.refusal_reply.ensures (rw none refl) c.send_reply.ensures.sent;
-  leaves = search rules;
+  leaves = keeps_leaves _ _ _ _ c.length_of.ensures.keeps;
   sends = search rules;
   stores = λ is. absurd (sent_memory _ _ _ _ c.send_reply.ensures.sent is);
   lasts = λ honest clean.
@@ -55,7 +57,7 @@ returns-in-Err g c = record {
   shown = λ honest clean.
       fault_ends _ _ _ _ _ _ _
       (λ store. unmeasurable c.args.served _ _ _ (rw store at (c.in-Err.ensures.measured honest clean))) c.send_fault.ensures.told;
-  leaves = search rules;
+  leaves = keeps_leaves _ _ _ _ c.length_of.ensures.keeps;
   sends = search rules;
   stores = λ is. c.in-Err.ensures.stores (ap Err (fault_memory _ _ _ _ _ c.send_fault.ensures.told is));
   lasts = λ honest clean. inr (look_failed _ _ _ _ _ _ c.send_fault.ensures.told);
