@@ -5,7 +5,6 @@ from collections.abc import Callable, Iterator
 
 import pytest
 from support.clients.curl import Curl, bytes_of, fill
-from support.needed import want_command
 from support.packages import make_packages
 from support.seen import Seen
 from support.serving import JSON_PAGE, Index, make_index, sha256
@@ -25,7 +24,6 @@ def packages(folder: str) -> dict:
 def curl(program: str, folder: str, packages: dict, looked: Callable) -> Iterator[Curl]:
     """curl, at an index with two users, two names and their files, whose requests came by curl. In the end the program
     has said nothing on standard error."""
-    want_command("curl", "curl")
     path = make_index(program, f"{folder}/index.db")
     with Index(program, path=path) as index:
         made = Curl(index.port, folder, looked)

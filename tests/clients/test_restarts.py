@@ -1,14 +1,12 @@
 """A program that is stopped and started again serves what was there, and one ends after as many requests as it was
 given."""
 from support.clients.curl import Curl, fill, shown
-from support.needed import want_command
 from support.packages import make_packages
 from support.seen import Seen
 from support.serving import Index, make_index
 
 
 def test_all_is_there_after_a_restart(program, folder, looked):
-    want_command("curl", "curl")
     path = make_index(program, f"{folder}/index.db")
     with Index(program, path=path) as index:
         curl = Curl(index.port, folder, looked)
@@ -22,7 +20,6 @@ def test_all_is_there_after_a_restart(program, folder, looked):
 
 
 def test_two_requests_and_the_program_ends(program, folder, looked):
-    want_command("curl", "curl")
     with Index(program, requests=2) as index:
         curl = Curl(index.port, folder, looked)
         for _ in range(2):

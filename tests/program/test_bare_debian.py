@@ -35,7 +35,8 @@ def test_the_two_commands_of_the_readme(bare, index, tmp_path, looked, user, lef
         ended = done(bare, user, url, command, PATIENCE)
         print(f"\n{command} as {user}: {ended.clock:.1f} min, {ended.processors:.1f} of processors, "
               f"load {ended.load:.1f}", flush=True)
-        looked(ended.status == 0 and last in ended.output, ended.output[-6_000:])
+        failed = [it for it in ended.output.splitlines() if it.startswith(("FAILED", "ERROR"))]
+        assert ended.status == 0 and last in ended.output, failed or ended.output[-3_000:]
     looked(re.fullmatch(r"\d+ passed, 0 failed", ended.output.splitlines()[-1]), ended.output[-600:])
     not_run = re.search(r"^NOT RUN: (\d+) tests", ended.output, re.M)
     looked(left_out is None or not not_run or int(not_run[1]) <= left_out, ended.output[-6_000:])

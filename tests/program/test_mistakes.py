@@ -9,7 +9,7 @@ import subprocess
 import sys
 
 import pytest
-from support.needed import want_commands_of
+from support.needed import want_command, want_commands_of
 from support.places import TOP
 from support.running import run_command
 
@@ -95,6 +95,7 @@ def test_a_mistake_in_the_words_for_the_kit_is_answered_in_one_sentence(answers,
 
 @pytest.mark.parametrize("line, said", ALONE)
 def test_what_is_not_installed_is_named(answers, tmp_path, line, said):
+    want_command("git", "git")
     (tmp_path / "bin").mkdir()
     for name in ("env", "git"):
         os.symlink(shutil.which(name), tmp_path / "bin" / name)

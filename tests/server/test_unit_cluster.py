@@ -198,6 +198,8 @@ def by_crmsh(folder, text):
     """What index-cluster finds wrong with a file, as crmsh itself reads it beside no cluster."""
     want_command("crm", "crmsh")
     want_command("crm_verify", "pacemaker-cli-utils")
+    if os.geteuid():
+        pytest.skip("only root calls crm, which writes a log of root's")
     with open(f"{folder}/cib.xml", "w") as made, open(f"{folder}/text", "w") as written:
         made.write(cib("", primitives=""))
         written.write(text)

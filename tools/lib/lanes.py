@@ -14,6 +14,7 @@ import sys
 import tempfile
 import threading
 import time
+from contextlib import suppress
 from typing import Any, Callable, Iterator, Sequence, Tuple, TypeAlias
 
 from children import ends
@@ -124,7 +125,9 @@ def end_at_signals(ending: Callable[[], str]) -> None:
     kit's code started ends with it: a process of the kit's waits for the end of this one, and then kills all the
     others."""
     def end(number: int, _: object) -> None:
-        sys.stdout.flush()
+        # (a signal that comes in the midst of a print can't print)
+        with suppress(RuntimeError):
+            sys.stdout.flush()
         os.write(2, f"{ending()}\n".encode())
         os._exit(128 + number)
     for it in ends():

@@ -5,6 +5,7 @@ import json
 import subprocess
 from collections.abc import Callable
 
+from support.needed import want_command
 from support.running import run_command
 from support.seen import Seen
 from support.serving import JSON_PAGE, sha256
@@ -25,6 +26,7 @@ class Curl:
     """Requests by curl. What came last is kept: the status, the lines of the head and the body."""
 
     def __init__(self, port: int, folder: str, looked: Callable) -> None:
+        want_command("curl", "curl")
         self.site, self.folder, self.looked = f"http://127.0.0.1:{port}", folder, looked
 
     def ask(self, path: str, *words: str) -> Curl:

@@ -6,6 +6,7 @@ import os
 import signal
 from urllib.parse import unquote
 
+from support.needed import want_command
 from support.proxy import InThread
 from support.server.front import WORKERS, Front
 from support.server.kept import Kept
@@ -17,6 +18,7 @@ class Manager(InThread):
     files again. `asked` is what it was asked."""
 
     def __init__(self, folder: str, index: Kept | None = None, front: Front | None = None):
+        want_command("curl", "curl")
         self.folder, self.index, self.front = folder, index, front
         self.asked: list[str] = []
         # what `systemctl show` prints, by unit and property; nothing for others
