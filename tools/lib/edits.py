@@ -218,8 +218,8 @@ def made_together(folder: str, edits: Sequence[Edit]) -> dict[str, str] | None:
     beside one another."""
     texts: dict[str, str] = {}
     for it in edits:
-        function, texts = it.beside(folder, texts, ())
-        if not function:
+        _, texts = it.beside(folder, texts, ())
+        if not texts:
             return None
     return texts
 
