@@ -138,9 +138,9 @@ def test_an_algorithm_that_the_operator_left_out_is_refused(issuer):
 
 
 @pytest.mark.parametrize("token", [
-    "", "a.b", "a.b.c.d", "a.b.c", "..", "office", "e30.e30.", "e30.e30.YQ==", "\u00e9.e30.YQ", "W10.e30.YQ",
-    f"{text_of(b'[' * 5000)}.e30.YQ", f"e30.{'a' * 8192}.YQ", f"{text_of(b'null')}.e30.YQ", "e30 .e30.YQ",
-    "e30.e30.YQ\n"])
+    "", "a.b", "a.b.c.d", "a.b.c", "..", "office", "e30.e30.", "e30.e30.YQ==", "\u00e9.e30.YQ",
+    f"{text_of(b'[]')}.e30.YQ", f"{text_of(b'[' * 5000)}.e30.YQ", f"e30.{'a' * 8192}.YQ",
+    f"{text_of(b'null')}.e30.YQ", "e30 .e30.YQ", "e30.e30.YQ\n"])
 def test_what_is_no_token_is_refused(issuer, token):
     assert refusal(issuer, token).sentence.startswith(NONE)
 
