@@ -7,6 +7,7 @@ import re
 import signal
 import subprocess
 import sys
+from functools import partial
 
 import pytest
 from support.durations import name_of, write
@@ -62,6 +63,20 @@ def test_a_list_of_the_gate_that_is_cut_off_ends_without_a_word():
     with subprocess.Popen([f"{TOP}/tests/run", "--list"], stdout=write_end, stderr=subprocess.PIPE) as listing:
         os.close(write_end)
         assert listing.stderr.read() == b"" and listing.wait(timeout=60) == -signal.SIGPIPE
+
+
+@pytest.mark.parametrize("quick, unpacked", [(True, ["promtool"]), (False, ["promtool", "kernel"])])
+def test_a_quick_run_unpacks_what_a_user_can_not_install(monkeypatch, quick, unpacked):
+    """A kernel, of 80 MB, is for slow tests alone."""
+    gate, done = program_of(f"{TOP}/tests/run"), []
+    monkeypatch.setattr(gate, "program_of", lambda given: given)
+    monkeypatch.setattr(gate.shutil, "which", lambda command: command)
+    for name in ("look_in_sbin", "install_missing", "go_on_by_a_python_with_pytest"):
+        monkeypatch.setattr(gate.set_up, name, lambda *given: None)
+    for name in ("promtool", "kernel"):
+        monkeypatch.setattr(gate.set_up, f"unpack_{name}", partial(done.append, name))
+    gate.prepare(gate.argparse.Namespace(quick=quick, program="", no_install=False))
+    assert done == unpacked
 
 
 # in the place of the kit, which knows no crate
