@@ -97,9 +97,9 @@ def long_lines(lines: Iterable[tuple[int, str]], columns: int) -> Iterator[int]:
     return (number for number, line in lines if len(line) > columns)
 
 
-def long_spec_lines(top: str, columns: int) -> Iterator[str]:
-    """Yields where a line of a crate's specs has more than so many columns."""
-    for path in sorted(glob.glob("crates/*/specs/**/*.antt", root_dir=top, recursive=True)):
+def long_logic_lines(top: str, folder: str, columns: int) -> Iterator[str]:
+    """Yields where a line of this folder of a crate, `specs` or `proofs`, has more than so many columns."""
+    for path in sorted(glob.glob(f"crates/*/{folder}/**/*.antt", root_dir=top, recursive=True)):
         for number in long_lines(enumerate(read(f"{top}/{path}").splitlines(), 1), columns):
             yield f"{path}:{number}"
 

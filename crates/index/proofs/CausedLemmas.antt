@@ -11,7 +11,8 @@ use Rattle.index.specs.Tasks.{IsNoListening}
 
 -- ---- serve
 
-pub serving_is_caused : (CannotAccept : Type 0) (ended : Result (Unit {0}) ServeEnd) → (ended ≡ Err serve_end.ReadFault → CannotAccept) → ServingIsCaused CannotAccept (end_of_serving ended)
+pub serving_is_caused : (CannotAccept : Type 0) (ended : Result (Unit {0}) ServeEnd) → (ended ≡ Err serve_end.ReadFault → CannotAccept)
+    → ServingIsCaused CannotAccept (end_of_serving ended)
 serving_is_caused CannotAccept (Ok done) read is = let no : Ok 0 ≡ Err (end.Connections serve_end.ReadFault) = is in absurd (cc no)
 serving_is_caused CannotAccept (Err early) read is =
     let both : Err (end.Connections early) ≡ Err (end.Connections serve_end.ReadFault) = is in
@@ -27,7 +28,8 @@ listening_is_caused CannotAccept told (inr is) read =
 
 -- ---- report
 
-pub report_is_caused : (why : ReportFault) (Failed : Type 0) → ((count : ℕ) → why ≡ report_fault.WriteFault count → Failed) → end_of_report why ≡ end.WriteFault → Failed
+pub report_is_caused : (why : ReportFault) (Failed : Type 0) → ((count : ℕ) → why ≡ report_fault.WriteFault count → Failed)
+    → end_of_report why ≡ end.WriteFault → Failed
 report_is_caused (report_fault.WriteFault count) Failed write is = write count refl
 report_is_caused report_fault.OutOfMemory Failed write is = let no : end.OutOfMemory ≡ end.WriteFault = is in absurd (cc no)
 report_is_caused report_fault.Store Failed write is = absurd (cc is)

@@ -1,5 +1,6 @@
 -- The opening of two files as a database, once their lengths were asked for.
-use Rattle.std.proofs.Common.{◌≡◌, ◌∙◌, ℕ, ◌+◌, ◌&&◌, ◌==◌, Bool, true, false, List, length, Option, None, Some, IsTrue, refl, sym, ap, ap₂, subst, inl, inr, true≢false}
+use Rattle.std.proofs.Common.{◌≡◌, ◌∙◌, ℕ, ◌+◌, ◌&&◌, ◌==◌, Bool, true, false, List, length, Option, None, Some, IsTrue, refl, sym, ap, ap₂}
+use Rattle.std.proofs.Common.{subst, inl, inr, true≢false}
 use Rattle.std.proofs.lemmas.Bool.{cases_Bool, eqb-true}
 use Rattle.sqlite.specs.declared.error.Error.{Error}
 use Rattle.sqlite.specs.declared.FileStore.{FileStore}
@@ -59,7 +60,8 @@ module _ {D : Type 0} {g : Ghosts D} where
 
   module _ (start : Image) (files : Files D) (found : AreAsFound g start files) where
     -- if the lengths of the files have no cause, those of what they held have none
-    pub allowed_by : (page_sums : Bool) (db log : ℕ) (found told : Option Cause) → told ≡ None → told ≡ found → found ≡ cause_of_lengths page_sums db log
+    pub allowed_by : (page_sums : Bool) (db log : ℕ) (found told : Option Cause) → told ≡ None → told ≡ found
+        → found ≡ cause_of_lengths page_sums db log
         → (IsTrue (g.is_clean files.db) → db ≡ length (g.seen files.db)) → (IsTrue (g.is_clean files.log) → log ≡ length (g.seen files.log))
         → IsTrue (g.is_clean files.log && g.is_clean files.db) → cause_of_files page_sums start ≡ None
     allowed_by page_sums db log cause told none is lengths db_tells log_tells clean =
@@ -68,21 +70,26 @@ module _ {D : Type 0} {g : Ghosts D} where
         (log_tells (first_true (g.is_clean files.log) (g.is_clean files.db) clean) ∙ ap (λ (i : Image). length i.log) found.same))
         ∙ (sym lengths ∙ (sym is ∙ none))
 
-    pub not_made : (page_sums : Bool) (error : Error) (left : Leftover D g) (told : End) → told ≡ end_of_error error → (IsCleanLeft left → FailsToOpenFiles files left error) → IsWhyShut page_sums start told (Some left)
-    not_made page_sums error left told is fails = λ clean. inl (no_database start files left error told is found.same found.tally found.faults (fails clean))
+    pub not_made : (page_sums : Bool) (error : Error) (left : Leftover D g) (told : End) → told ≡ end_of_error error
+        → (IsCleanLeft left → FailsToOpenFiles files left error) → IsWhyShut page_sums start told (Some left)
+    not_made page_sums error left told is fails =
+        λ clean. inl (no_database start files left error told is found.same found.tally found.faults (fails clean))
 
     pub left_unmade : (left : Leftover D g) → (IsCleanLeft left → LeavesFiles files left) → CleanShutLeaves start left
     left_unmade left leaves = λ clean. shut_by start files left found.same found.crash (leaves clean)
 
-    pub opened_on : (conn : Held (FileStore D g)) → (HasCleanDisk (file_state conn) → IsOpened conn) → (HasCleanDisk (file_state conn) → Finds files conn) → IsOpenedOn start conn
+    pub opened_on : (conn : Held (FileStore D g)) → (HasCleanDisk (file_state conn) → IsOpened conn)
+        → (HasCleanDisk (file_state conn) → Finds files conn) → IsOpenedOn start conn
     opened_on conn opened finds = λ clean. (
       opened clean,
       let it = finds clean in
           subst (λ i. FindsIn i (file_state conn)) found.same (record { holds = it.holds; reads = it.reads }),
     )
 
-    pub has_sums : (page_sums : Bool) (conn : Held (FileStore D g)) → (HasCleanDisk (file_state conn) → cause_of_files page_sums start ≡ None)
-        → (HasCleanDisk (file_state conn) → IsBlankAs page_sums (image_of g files) → (view conn.store).has_sums ≡ page_sums) → HasCleanDisk (file_state conn) → HasSumsAs page_sums start conn
+    pub has_sums : (page_sums : Bool) (conn : Held (FileStore D g))
+        → (HasCleanDisk (file_state conn) → cause_of_files page_sums start ≡ None)
+        → (HasCleanDisk (file_state conn) → IsBlankAs page_sums (image_of g files) → (view conn.store).has_sums ≡ page_sums)
+        → HasCleanDisk (file_state conn) → HasSumsAs page_sums start conn
     has_sums true conn allowed sums = λ clean.
         let none = empty_before (length start.db) (length start.log) (allowed clean) in
         (none, sums clean (inl (ap (λ (i : Image). length i.db) found.same ∙ none)))

@@ -43,12 +43,14 @@ use Rattle.index.proofs.ThereLemmas.{current_is_there}
 
 -- ---- what is told of lines
 
-told_asked : (asked : Option Line) (h : History) (text : List ℕ) (h' : History) → TextAnswersParsedLine by_history asked h text h' → IsFrontOf h h'
+told_asked : (asked : Option Line) (h : History) (text : List ℕ) (h' : History) → TextAnswersParsedLine by_history asked h text h'
+    → IsFrontOf h h'
 told_asked None h text h' it = as_is h h' it.1
 told_asked (Some (line.Call call)) h text h' it = after_call_is h call it.0 h' it.3
 told_asked (Some (line.Standing name)) h text h' it = as_is h h' it.1
 
-told_lines : (h : History) (lines : List (List ℕ)) (text : List ℕ) (h' : History) → TextAnswersLines by_history h lines text h' → IsFrontOf h h'
+told_lines : (h : History) (lines : List (List ℕ)) (text : List ℕ) (h' : History) → TextAnswersLines by_history h lines text h'
+    → IsFrontOf h h'
 told_lines h [] text h' it = as_is h h' it.1
 told_lines h (asked ∷ lines) text h' it =
     longer h it.2 h' (elim (cases_lt longest_line (length asked)) [
@@ -62,7 +64,9 @@ become : (h h' : History) (calls : List Call) (answers : List Answer) (T : Table
 become h h' [] [] T it = as_is h h' (sym it)
 become h h' [] (answer ∷ answers) T it = absurd it
 become h h' (call ∷ calls) [] T it = absurd it
-become h h' (call ∷ calls) (Accepted ∷ answers) T it = longer h (history_after h call Accepted) h' (after_call h call Accepted) (become (history_after h call Accepted) h' calls answers T it.1)
+become h h' (call ∷ calls) (Accepted ∷ answers) T it =
+    longer h (history_after h call Accepted) h' (after_call h call Accepted)
+    (become (history_after h call Accepted) h' calls answers T it.1)
 become h h' (call ∷ calls) (Already ∷ answers) T it = become h h' calls answers T it
 become h h' (call ∷ calls) (Refused refusal ∷ answers) T it = become h h' calls answers T it
 become h h' (call ∷ calls) (Fault fault ∷ answers) T (inl it) = become h h' calls answers T it
@@ -74,17 +78,23 @@ carried_on : (task : Task) (result : Result ℕ End) (h h' : History) (T' : Tabl
 carried_on (AnswerLines given left had has) result h h' T' it =
     (LinesEnd-choice (IsFrontOf h h') (λ lines text T. TextAnswersLines by_history h lines text h') (λ a lines text T. Unit {0}) T'
     (λ lines text told. (told_lines h lines text h' told, tt)) given left had has it.0 it.2).0
-carried_on (AnswerConnections at requests coming coming' replies replies') result h h' T' it = answered_each it.2.exchanges h h' it.2.answered
+carried_on (AnswerConnections at requests coming coming' replies replies') result h h' T' it =
+    answered_each it.2.exchanges h h' it.2.answered
 carried_on (WriteReport had has) result h h' T' it = as_is h h' it
 carried_on CountWrong result h h' T' it = as_is h h' it
 
 may_carry_on : (task : Task) (result : Result ℕ End) (h h' : History) (T' : Tables) → MayCarry task result h h' T' → IsFrontOf h h'
 may_carry_on (AnswerLines given left had has) result h h' T' it =
     (LinesEnd-choice (IsFrontOf h h') (LineCallsLeave (MayBecome h h')) (λ a lines text T. Unit {0}) T'
-    (λ lines text told. ((LineCallsLeave-choice (IsFrontOf h h') T' (MayBecome h h') (λ a calls answers T. Unit {0}) (λ calls answers left. (become h h' calls answers T' left, tt)) lines text told).0, tt))
+    (λ lines text told. (
+      (LineCallsLeave-choice (IsFrontOf h h') T' (MayBecome h h') (λ a calls answers T. Unit {0})
+          (λ calls answers left. (become h h' calls answers T' left, tt)) lines text told).0,
+      tt,
+    ))
     given left had has it.0 it.2).0
 may_carry_on (AnswerConnections at requests coming coming' replies replies') result h h' T' it =
-    (LeavingTables-choice (AreAmong coming coming' replies replies') (IsFrontOf h h') T' (MayBecome h h') (λ a calls answers T. Unit {0}) (λ calls answers left. (become h h' calls answers T' left, tt)) by_history at it.0 h it.2).0
+    (LeavingTables-choice (AreAmong coming coming' replies replies') (IsFrontOf h h') T' (MayBecome h h') (λ a calls answers T. Unit {0})
+    (λ calls answers left. (become h h' calls answers T' left, tt)) by_history at it.0 h it.2).0
 may_carry_on (WriteReport had has) result h h' T' it = as_is h h' it
 may_carry_on CountWrong result h h' T' it = as_is h h' it
 
@@ -108,11 +118,13 @@ there_by_run (EndedRun task result) start next it = λ some. current_is_there ne
 there_by_run (CutRun task result) start next it = λ some. it.there
 there_by_run UnusedRun start next it = it.0
 
-by_runs : (runs : List Run) (start last : Image) (leads : LeadTo runs start last) → (¬ HoldsNone start) → (Was : History → Type 0) (h' : History)
+by_runs : (runs : List Run) (start last : Image) (leads : LeadTo runs start last) → (¬ HoldsNone start)
+    → (Was : History → Type 0) (h' : History)
     → ComesByRuns runs start last leads Was h' → From Was h'
 by_runs [] start last leads some Was h' comes = (h', comes, itself h')
 by_runs (run ∷ runs) start last leads some Was h' comes =
-    let later = by_runs runs leads.0 last leads.2 (there_by_run run start leads.0 leads.1 some) (λ h. IsLegal h × ComesByRun run start leads.0 leads.1 Was h) h' comes in
+    let later = by_runs runs leads.0 last leads.2 (there_by_run run start leads.0 leads.1 some)
+    (λ h. IsLegal h × ComesByRun run start leads.0 leads.1 Was h) h' comes in
     let first = by_run run start leads.0 leads.1 some Was later.0 later.1.1 in
     (first.0, first.1, longer first.0 later.0 h' first.2 later.2)
 

@@ -15,7 +15,8 @@ use Rattle.index.specs.Openings.{cause_of_store}
 
 -- the schema told it, if there is one
 pub told_by_schema : {E : Type 0} (schema : Schema) (found : Result (Option Cause) E) (cause : Option Cause)
-    → IfOk found (λ cause. IsSome cause → SchemaHasCause schema cause) → cause ≡ result_unwrap_or found None → is_some cause ≡ true → SchemaHasCause schema cause
+    → IfOk found (λ cause. IsSome cause → SchemaHasCause schema cause) → cause ≡ result_unwrap_or found None → is_some cause ≡ true
+    → SchemaHasCause schema cause
 told_by_schema schema (Ok (Some told)) cause tells is some = subst (λ it. SchemaHasCause schema it) (sym is) (tells refl)
 told_by_schema schema (Ok None) cause tells is some = let no : false ≡ true = subst (λ it. is_some it ≡ true) is some in cc no
 told_by_schema schema (Err e) cause tells is some = let no : false ≡ true = subst (λ it. is_some it ≡ true) is some in cc no

@@ -16,7 +16,8 @@ pub index_is_not_none : (image : Image) (T : Tables) (holds : Holds image T) (no
 index_is_not_none image T holds none same = not_found none holds.db T same holds.found
 
 -- a run that was cut short leaves no files with nothing of an index
-pub cut_run_leaves_an_index : (task : Task) (result : Result ℕ End) (start next : Image) → HoldsNone next → ¬ LeadsOn (CutRun task result) start next
+pub cut_run_leaves_an_index : (task : Task) (result : Result ℕ End) (start next : Image) → HoldsNone next
+    → ¬ LeadsOn (CutRun task result) start next
 cut_run_leaves_an_index task result start next none leads = leads.there none
 
 -- nor does an init that ended well, which made an index if there was none
@@ -27,7 +28,8 @@ pub created_run_found_none : (user token : Bytes) (start next : Image) → (¬ H
 created_run_found_none user token start next some leads = some leads.0
 
 -- a list with one input fewer for each connection that came
-pub came_fewer : (inputs : List (List ℕ)) (later : KnownList) (exchanges : List Exchange) → Came (Some inputs) later exchanges → (rest : List (List ℕ)) × (later ≡ Some rest) × (length inputs ≡ length rest + length exchanges)
+pub came_fewer : (inputs : List (List ℕ)) (later : KnownList) (exchanges : List Exchange) → Came (Some inputs) later exchanges
+    → (rest : List (List ℕ)) × (later ≡ Some rest) × (length inputs ≡ length rest + length exchanges)
 came_fewer inputs later [] it = (inputs, it, omega arith)
 came_fewer inputs later (exchange ∷ earlier) it =
     let before = came_fewer inputs it.0 earlier it.1 in
@@ -39,7 +41,8 @@ no_length : (exchanges : List Exchange) → length exchanges ≡ 0 → exchanges
 no_length [] is = refl
 no_length (exchange ∷ earlier) is = absurd (omega (arith, is))
 
-none_came : (inputs : List (List ℕ)) (r r' : KnownReplies) (exchanges : List Exchange) → AreAmong (Some inputs) (Some inputs) r r' exchanges → length exchanges ≡ 0
+none_came : (inputs : List (List ℕ)) (r r' : KnownReplies) (exchanges : List Exchange) → AreAmong (Some inputs) (Some inputs) r r' exchanges
+    → length exchanges ≡ 0
 none_came inputs r r' exchanges it =
     let came = came_fewer inputs it.later exchanges it.came in
     elim it.rest [
@@ -58,5 +61,6 @@ none_came inputs r r' exchanges it =
     ]
 
 -- of known connections that are as many after a run as before none was answered
-pub nobody_is_not_served : (inputs : List Bytes) (r r' : KnownReplies) (exchanges : List Exchange) → AreAmong (Some inputs) (Some inputs) r r' exchanges → exchanges ≡ []
+pub nobody_is_not_served : (inputs : List Bytes) (r r' : KnownReplies) (exchanges : List Exchange)
+    → AreAmong (Some inputs) (Some inputs) r r' exchanges → exchanges ≡ []
 nobody_is_not_served inputs r r' exchanges it = no_length exchanges (none_came inputs r r' exchanges it)

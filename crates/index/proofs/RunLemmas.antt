@@ -1,5 +1,6 @@
 -- From the states of a connection to the files that it was opened on and closed to.
-use Rattle.std.proofs.Common.{◌≡◌, ◌⊎◌, ◌↔◌, ◌∙◌, Bool, List, [], ◌∷◌, false, sym, ap, subst, subst₂, if◌then◌else◌, inl, inr, ℕ, Some, Result, Ok, Err, IfErr, IfOk, arith}
+use Rattle.std.proofs.Common.{◌≡◌, ◌⊎◌, ◌↔◌, ◌∙◌, Bool, List, [], ◌∷◌, false, sym, ap, subst, subst₂, if◌then◌else◌, inl, inr, ℕ, Some}
+use Rattle.std.proofs.Common.{Result, Ok, Err, IfErr, IfOk, arith}
 use Rattle.std.proofs.lemmas.Bool.{cases_Bool}
 use Rattle.std.proofs.Math.Logic.{∥∥₁_elim, ∥∥₁_map}
 use Rattle.sqlite.specs.Closing.{HoldsAlone, IsCopied}
@@ -42,7 +43,8 @@ use Rattle.sqlite.specs.WalReads.{AreClean}
 use Rattle.index.specs.declared.database.Unclosed.{Unclosed}
 use Rattle.index.proofs.ThereLemmas.{not_same, there_by}
 use Rattle.index.specs.Openings.{HoldsOnly, IsCleanClosed, OpensAgain, Refused, ShutLeaves}
-use Rattle.index.specs.Runs.{Began, CrashLeavesDatabase, CrashLeavesOnlyTables, Created, CreatedInLog, FindsOnly, Holds, HoldsAfterCrash, HoldsCurrent, HoldsNone, Interrupted, IsMadeNew, Ran, Worked}
+use Rattle.index.specs.Runs.{Began, CrashLeavesDatabase, CrashLeavesOnlyTables, Created, CreatedInLog, FindsOnly, Holds, HoldsAfterCrash}
+use Rattle.index.specs.Runs.{HoldsCurrent, HoldsNone, Interrupted, IsMadeNew, Ran, Worked}
 
 -- an index of today is found as it is, and never as one of version 1
 same_found : (db other : Database) (T found : Tables) → IsCurrent 2 db T → IsFound other found → other.trees ≡ db.trees → found ≡ T
@@ -64,8 +66,10 @@ keeps_of image db T current held = record {
 }
 
 -- if a new index was made, no table had the name of one of its own
-pub free_of : {S A : Type 0} (user token : Bytes) (schema : Schema) (result : Result A (Unopened S)) → (IsRefusedAs BadFirstUser result ↔ IsBadFirstUser user token)
-    → (IsTaken user token schema → IsRefusedAs NotEmpty result ⊎ IsRefusedAs OutOfMemory result) → IfOk result (λ _. has_any_of schema index_schema.tables ≡ false)
+pub free_of : {S A : Type 0} (user token : Bytes) (schema : Schema) (result : Result A (Unopened S))
+    → (IsRefusedAs BadFirstUser result ↔ IsBadFirstUser user token)
+    → (IsTaken user token schema → IsRefusedAs NotEmpty result ⊎ IsRefusedAs OutOfMemory result)
+    → IfOk result (λ _. has_any_of schema index_schema.tables ≡ false)
 free_of user token schema (Ok made) bad taken = elim (cases_Bool (has_any_of schema index_schema.tables)) [
   | inl any ↦ absurd (elim (taken ((λ is. bad.1 is), any)) [ inl none ↦ none | inr none ↦ none ])
   | inr free ↦ free
@@ -78,7 +82,8 @@ LeavesFile mixes log db is_log history bytes =
     let m = replay (if is_log then log else db) history in MayLeaveFile mixes m.seen m.synced m.steps bytes
 
 -- if it was settled, and nothing has happened since, that is what it held
-pub settled_leaves : (mixes : Bool) (log db : List ℕ) (is_log which : Bool) (key : ℕ) (history : List Event) (bytes : List ℕ) → is_log ≡ which → history ≡ settled key ∷ []
+pub settled_leaves : (mixes : Bool) (log db : List ℕ) (is_log which : Bool) (key : ℕ) (history : List Event) (bytes : List ℕ)
+    → is_log ≡ which → history ≡ settled key ∷ []
     → LeavesFile mixes log db is_log history bytes → bytes ≡ (if which then log else db)
 settled_leaves mixes log db is_log which key history bytes is fresh may =
     elim (subst₂ (λ (b : Bool) (h : List Event). LeavesFile mixes log db b h bytes) is fresh may) [ inl same ↦ same | inr same ↦ same ]
@@ -88,7 +93,8 @@ module _ {D : Type 0} {g : Ghosts D} where
   pub working_of : (last : Held (FileStore D g)) (files : Files D) → IsCopied last files → IsWorking (file_state last)
   working_of last files copied = record { clean = copied.was_clean; is_open = copied.was_open }
 
-  pub leaves_of : (last : Held (FileStore D g)) (files : Files D) (T : Tables) → IsCopied last files → IsCommitted 2 (file_state last) T → HoldsAfterCrash g files T
+  pub leaves_of : (last : Held (FileStore D g)) (files : Files D) (T : Tables) → IsCopied last files → IsCommitted 2 (file_state last) T
+      → HoldsAfterCrash g files T
   leaves_of last files T copied committed =
       let db = (file_state last).now in
       let same : (file_state last).committed ≡ db = sym committed.committed in
@@ -96,17 +102,20 @@ module _ {D : Type 0} {g : Ghosts D} where
       keeps_of image db T committed.current (subst (λ (d : Database). HoldsAlone image d.trees) same alone) in
       record { seen = held _ copied.seen; crash = λ image may. held image (copied.left image may) }
 
-  only_of : (start : Image) (first : Held (FileStore D g)) → IsOpened first → FindsIn start (file_state first) → HoldsOnly start (file_state first).now
+  only_of : (start : Image) (first : Held (FileStore D g)) → IsOpened first → FindsIn start (file_state first)
+      → HoldsOnly start (file_state first).now
   only_of start first opened finds = record {
     read = subst (λ (d : Database). AreFoundIn start d.trees) (sym opened.0.clean) finds.reads;
     alone = λ other holds. ap (λ (d : Database). d.trees) opened.0.clean ∙ finds.holds other holds;
   }
 
-  holds_of : (start : Image) (first : Held (FileStore D g)) (T : Tables) → IsOpened first → FindsIn start (file_state first) → IsFound (file_state first).now T → Holds start T
+  holds_of : (start : Image) (first : Held (FileStore D g)) (T : Tables) → IsOpened first → FindsIn start (file_state first)
+      → IsFound (file_state first).now T → Holds start T
   holds_of start first T opened finds found = record { db = (file_state first).now; found = found; only = only_of start first opened finds }
 
   -- work between an opening and a close
-  pub ran_by : (Does : Tables → Tables → Type 0) (start : Image) (first last : Held (FileStore D g)) (files : Files D) → IsOpened first → FindsIn start (file_state first)
+  pub ran_by : (Does : Tables → Tables → Type 0) (start : Image) (first last : Held (FileStore D g)) (files : Files D) → IsOpened first
+      → FindsIn start (file_state first)
       → Worked Does (file_state first).now (file_state last) → IsCopied last files → Ran g Does start files
   ran_by Does start first last files opened finds worked copied = record {
     before = worked.before;
@@ -117,19 +126,25 @@ module _ {D : Type 0} {g : Ghosts D} where
   }
 
   -- an index that is found in what a crash leaves is in a database that the store allows
-  pub found_among : (last : FileStore D g) → OpensAgain last → (next : Image) → (store.state last).may_leave next → (T : Tables) → (holds : Holds next T)
+  pub found_among : (last : FileStore D g) → OpensAgain last → (next : Image) → (store.state last).may_leave next → (T : Tables)
+      → (holds : Holds next T)
       → ∥ over_files.recovers last holds.db.trees ∥₁
   found_among last again next may T holds =
       ∥∥₁_map (opens_again last again.0 again.1 next may) (λ it. subst (over_files.recovers last) (sym (holds.only.alone it.0 it.2)) it.1)
 
-  found_next : (Are : Tables → Type 0) (last : Held (FileStore D g)) → OpensAgain last.store → CrashLeavesOnlyTables (file_state last).may_leave Are
+  found_next : (Are : Tables → Type 0) (last : Held (FileStore D g)) → OpensAgain last.store
+      → CrashLeavesOnlyTables (file_state last).may_leave Are
       → (image : Image) → MayLeave last image → FindsOnly image Are
   found_next Are last again left image may found holds =
-      ∥∥₁_map (found_among last.store again image may found holds) (λ allowed. left holds.db.trees allowed found (tables_of_found holds.db found holds.found))
+      ∥∥₁_map (found_among last.store again image may found holds)
+      (λ allowed. left holds.db.trees allowed found (tables_of_found holds.db found holds.found))
 
   -- work between an opening and a close that failed
-  pub interrupted_by : (Told : Tables → Type 0) (Left : Tables → Tables → Type 0) (start : Image) (first last : Held (FileStore D g)) (store : FileStore D g) → IsOpened first → FindsIn start (file_state first)
-      → Began Told Left (file_state first).now (file_state last).may_leave → ((T : Tables) → (T' : Tables) × (¬ Left T T')) → IsClosed last store → OpensAgain last.store → Interrupted Told Left start store
+  pub interrupted_by : (Told : Tables → Type 0) (Left : Tables → Tables
+      → Type 0) (start : Image) (first last : Held (FileStore D g)) (store : FileStore D g) → IsOpened first
+      → FindsIn start (file_state first)
+      → Began Told Left (file_state first).now (file_state last).may_leave → ((T : Tables) → (T' : Tables) × (¬ Left T T'))
+      → IsClosed last store → OpensAgain last.store → Interrupted Told Left start store
   interrupted_by Told Left start first last store opened finds began other closed again = record {
     before = began.before;
     held = holds_of start first began.before opened finds began.found;
@@ -143,10 +158,16 @@ module _ {D : Type 0} {g : Ghosts D} where
 
   none_of : (start : Image) (first : Held (FileStore D g)) → IsOpened first → FindsIn start (file_state first)
       → has_any_of (file_state first).now.schema index_schema.tables ≡ false → HoldsNone start
-  none_of start first opened finds free = record { db = (file_state first).now; sound = (opened.1 opened.0.is_open).0; only = only_of start first opened finds; free = free }
+  none_of start first opened finds free = record {
+    db = (file_state first).now;
+    sound = (opened.1 opened.0.is_open).0;
+    only = only_of start first opened finds;
+    free = free;
+  }
 
   -- a new index between an opening and a close
-  pub created_by : (T : Tables) (start : Image) (first last : Held (FileStore D g)) (files : Files D) → IsOpened first → FindsIn start (file_state first)
+  pub created_by : (T : Tables) (start : Image) (first last : Held (FileStore D g)) (files : Files D) → IsOpened first
+      → FindsIn start (file_state first)
       → IsMadeNew T (file_state first) (file_state last) → IsCopied last files → Created g T start files
   created_by T start first last files opened finds made copied = record {
     held = none_of start first opened finds made.free;
@@ -154,8 +175,10 @@ module _ {D : Type 0} {g : Ghosts D} where
   }
 
   -- and between one and a close that failed
-  pub created_in_log_by : (T : Tables) (start : Image) (first last : Held (FileStore D g)) (store : FileStore D g) → IsOpened first → FindsIn start (file_state first)
-      → IsMadeNew T (file_state first) (file_state last) → HasCleanDisk (file_state last) → IsClosed last store → OpensAgain last.store → CreatedInLog T start store
+  pub created_in_log_by : (T : Tables) (start : Image) (first last : Held (FileStore D g)) (store : FileStore D g) → IsOpened first
+      → FindsIn start (file_state first)
+      → IsMadeNew T (file_state first) (file_state last) → HasCleanDisk (file_state last) → IsClosed last store → OpensAgain last.store
+      → CreatedInLog T start store
   created_in_log_by T start first last store opened finds made clean closed again =
       let left = made.left clean opened.0.is_open in
       record {
@@ -167,7 +190,8 @@ module _ {D : Type 0} {g : Ghosts D} where
         there = there_by (λ found. found ≡ T) last.store again left (not_same T);
       }
 
-  pub refused_by : (Made : Database → Trees → Type 0) (start : Image) (first last : Held (FileStore D g)) → IsOpened first → FindsIn start (file_state first)
+  pub refused_by : (Made : Database → Trees → Type 0) (start : Image) (first last : Held (FileStore D g)) → IsOpened first
+      → FindsIn start (file_state first)
       → CrashLeavesDatabase Made (file_state first) (file_state last) → Refused Made start (file_state last)
   refused_by Made start first last opened finds leaves = record {
     db = (file_state first).now;
@@ -177,17 +201,21 @@ module _ {D : Type 0} {g : Ghosts D} where
   }
 
   -- a disk that is clean as a close fails was so before it
-  pub clean_before : (last : Held (FileStore D g)) (store : FileStore D g) → IsClosed last store → IsClean (over_files.view store) → HasCleanDisk (file_state last)
+  pub clean_before : (last : Held (FileStore D g)) (store : FileStore D g) → IsClosed last store → IsClean (over_files.view store)
+      → HasCleanDisk (file_state last)
   clean_before last store closed clean = omega (arith, closed.quiet.clean, clean)
 
   -- and so it was before an index was made
-  pub was_clean_by : {T : Tables} (first last : Held (FileStore D g)) (closed : Result (Files D) (Unclosed D g)) → IsMadeNew T (file_state first) (file_state last)
-      → IfOk closed (λ files. AreClean g files.log files.db → IsCopied last files) → IfErr closed (λ it. IsClosed last it.store) → IsCleanClosed closed → HasCleanDisk (file_state first)
+  pub was_clean_by : {T : Tables} (first last : Held (FileStore D g)) (closed : Result (Files D) (Unclosed D g))
+      → IsMadeNew T (file_state first) (file_state last)
+      → IfOk closed (λ files. AreClean g files.log files.db → IsCopied last files) → IfErr closed (λ it. IsClosed last it.store)
+      → IsCleanClosed closed → HasCleanDisk (file_state first)
   was_clean_by first last (Ok files) made copied kept clean = made.was_clean (copied clean).was_clean
   was_clean_by first last (Err it) made copied kept clean = made.was_clean (clean_before last it.store kept clean)
 
   -- an opening that fails, over files that nothing had happened to
-  pub shut_by : (start : Image) (files : Files D) (left : Leftover D g) → image_of g files ≡ start → ((image : Image) → outcomes g files.log files.db image → image ≡ start)
+  pub shut_by : (start : Image) (files : Files D) (left : Leftover D g) → image_of g files ≡ start
+      → ((image : Image) → outcomes g files.log files.db image → image ≡ start)
       → LeavesFiles files left → ShutLeaves start left
   shut_by start files (leftover.Files now) same still leaves = λ image may. still image (leaves image may)
   shut_by start files (leftover.Unopened now) same still leaves = λ image may. elim leaves [

@@ -1,5 +1,6 @@
 -- An index that is there is seen: no database holds one and nothing of one, and what may be left of work is not all that there could be.
-use Rattle.std.proofs.Common.{◌≡◌, ◌∙◌, ℕ, Bool, true, false, cond, ◌||◌, List, [], ◌∷◌, Option, Some, None, Result, refl, sym, ap, subst, inl, inr}
+use Rattle.std.proofs.Common.{◌≡◌, ◌∙◌, ℕ, Bool, true, false, cond, ◌||◌, List, [], ◌∷◌, Option, Some, None, Result, refl, sym, ap, subst}
+use Rattle.std.proofs.Common.{inl, inr}
 use Rattle.std.specs.List.{AllZip}
 use Rattle.std.specs.FinMap.{get, insert, remove}
 use Rattle.std.proofs.Math.Logic.{∥∥₁_elim}
@@ -59,7 +60,8 @@ abbrev has_first : List Table → Bool
 has_first [] = false
 has_first (table ∷ tables) = true
 
-named_first : (rows : List Row) (one other : List Table) → has_first other ≡ true → AllZip IsTableRow rows one → AllZip IsTableRow rows other
+named_first : (rows : List Row) (one other : List Table) → has_first other ≡ true → AllZip IsTableRow rows one
+    → AllZip IsTableRow rows other
     → (has_first one ≡ true) × (first_name one ≡ first_name other)
 named_first rows one [] some are are' = absurd (true≢false (sym some))
 named_first [] one (b ∷ others) some are are' = absurd are'
@@ -69,18 +71,21 @@ named_first (row ∷ rows) (a ∷ more) (b ∷ others) some are are' =
     let same : a.name ≡ b.name = cc in
     (refl, same)
 
-has_named : (schema : Schema) (tables : List Table) (name : List ℕ) → schema.tables ≡ tables → has_first tables ≡ true → first_name tables ≡ name → has_table schema name ≡ true
+has_named : (schema : Schema) (tables : List Table) (name : List ℕ) → schema.tables ≡ tables → has_first tables ≡ true
+    → first_name tables ≡ name → has_table schema name ≡ true
 has_named schema [] name is some named = absurd (true≢false (sym some))
 has_named schema (table ∷ tables) name is some named =
     let same : same_name table.name name ≡ true = ap (λ it. same_name it name) named ∙ same_itself name in
     rw is (rw same refl)
 
-has_any_first : (schema : Schema) (tables : List Table) → has_first tables ≡ true → has_table schema (first_name tables) ≡ true → has_any_of schema tables ≡ true
+has_any_first : (schema : Schema) (tables : List Table) → has_first tables ≡ true → has_table schema (first_name tables) ≡ true
+    → has_any_of schema tables ≡ true
 has_any_first schema [] some has = absurd (true≢false (sym some))
 has_any_first schema (table ∷ tables) some has = ap (λ b. b || has_any_of schema tables) has
 
 -- a database that lists tables of which the first is called as the first of an index has something of one
-has_of_two : (schema other : Schema) (db : Trees) → has_first other.tables ≡ true → first_name other.tables ≡ first_name index_schema.tables → IsSound schema db → IsSound other db
+has_of_two : (schema other : Schema) (db : Trees) → has_first other.tables ≡ true → first_name other.tables ≡ first_name index_schema.tables
+    → IsSound schema db → IsSound other db
     → has_any_of schema index_schema.tables ≡ true
 has_of_two schema other db some named sound sound' =
     let is = named_first _ schema.tables other.tables some sound.lists.listed.tables sound'.lists.listed.tables in
@@ -89,21 +94,25 @@ has_of_two schema other db some named sound sound' =
 -- files that hold nothing of an index hold none of these trees
 pub not_these : {image : Image} (none : HoldsNone image) (db : Trees) → none.db.trees ≡ db → AreCurrent 2 db → ⊥
 not_these none db same current =
-    false≢true (sym none.free ∙ has_of_two none.db.schema index_schema db refl refl (subst (λ trees. IsSound none.db.schema trees) same none.sound) current.index.sound)
+    false≢true (sym none.free ∙ has_of_two none.db.schema index_schema db refl refl
+    (subst (λ trees. IsSound none.db.schema trees) same none.sound) current.index.sound)
 
 pub not_found : {image : Image} (none : HoldsNone image) (db : Database) (T : Tables) → none.db.trees ≡ db.trees → IsFound db T → ⊥
 not_found none db T same (inl it) =
-    false≢true (sym none.free ∙ has_of_two none.db.schema index_schema db.trees refl refl (subst (λ trees. IsSound none.db.schema trees) same none.sound)
+    false≢true (sym none.free ∙ has_of_two none.db.schema index_schema db.trees refl refl
+    (subst (λ trees. IsSound none.db.schema trees) same none.sound)
     (subst (λ schema. IsSound schema db.trees) it.index.schema it.index.sound))
 not_found none db T same (inr it) =
-    false≢true (sym none.free ∙ has_of_two none.db.schema _ db.trees refl refl (subst (λ trees. IsSound none.db.schema trees) same none.sound)
+    false≢true (sym none.free ∙ has_of_two none.db.schema _ db.trees refl refl
+    (subst (λ trees. IsSound none.db.schema trees) same none.sound)
     (subst (λ schema. IsSound schema db.trees) it.first.schema it.first.sound))
 
 pub no_proof : (a b : ⊥) → a ≡ b
 no_proof a b = absurd a
 
 pub current_is_there : (image : Image) (T : Tables) → HoldsCurrent image T → ¬ HoldsNone image
-current_is_there image T it none = ∥∥₁_elim it.held.both no_proof (λ held. not_found none it.db T (none.only.alone it.db.trees held) (inl it.current))
+current_is_there image T it none = ∥∥₁_elim it.held.both no_proof
+    (λ held. not_found none it.db T (none.only.alone it.db.trees held) (inl it.current))
 
 -- ---- what may be left of work is not all that there could be: no request bans the empty name
 
@@ -112,7 +121,8 @@ unfolding read_file names.read_file_name
 unread = refl
 
 not_empty : (file : Bytes) → read_file file ≡ Some file → [] ≡ file → ⊥
-not_empty file reads is = let none : read_file [] ≡ Some file = ap (λ (f : Bytes). read_file f) is ∙ reads in let both : None ≡ Some file = sym unread ∙ none in cc
+not_empty file reads is = let none : read_file [] ≡ Some file = ap (λ (f : Bytes). read_file f) is ∙ reads in let both : None ≡ Some file =
+    sym unread ∙ none in cc
 
 other_than_empty : (file : Bytes) → read_file file ≡ Some file → same [] file ≡ false
 other_than_empty file reads = elim (cases_same [] file) [ inl is ↦ absurd (not_empty file reads is) | inr other ↦ other ]
@@ -120,7 +130,8 @@ other_than_empty file reads = elim (cases_same [] file) [ inl is ↦ absurd (not
 put_other : (bans : TextSet) (file : Bytes) → same [] file ≡ false → get (insert bans file tt) [] ≡ get bans []
 put_other bans file other = get-put bans file tt [] ∙ ap (λ b. cond b (Some tt) (get bans [])) other
 
-keeps_empty : (T : Tables) (at : ℕ) (token : Bytes) (request : Request) → verdict_now T (record { at = at; token = token; request = request }) ≡ Accept
+keeps_empty : (T : Tables) (at : ℕ) (token : Bytes) (request : Request)
+    → verdict_now T (record { at = at; token = token; request = request }) ≡ Accept
     → get (tables_with_call T (record { at = at; token = token; request = request })).bans [] ≡ get T.bans []
 keeps_empty T at token (BanFile file) accepts =
     let c : Call = record { at = at; token = token; request = BanFile file } in
@@ -128,7 +139,8 @@ keeps_empty T at token (BanFile file) accepts =
     put_other T.bans file (other_than_empty file reads)
 keeps_empty T at token request accepts = refl
 
-leaves_empty : (T : Tables) (calls : List Call) (answers : List Answer) (T' : Tables) → CallsLeave by_tables T calls answers T' → get T'.bans [] ≡ get T.bans []
+leaves_empty : (T : Tables) (calls : List Call) (answers : List Answer) (T' : Tables) → CallsLeave by_tables T calls answers T'
+    → get T'.bans [] ≡ get T.bans []
 leaves_empty T [] [] T' it = ap (λ (T : Tables). get T.bans []) it
 leaves_empty T [] (answer ∷ answers) T' it = absurd it
 leaves_empty T (call ∷ calls) [] T' it = absurd it
@@ -137,7 +149,8 @@ leaves_empty T (call ∷ calls) (Accepted ∷ answers) T' it =
 leaves_empty T (call ∷ calls) (Already ∷ answers) T' it = leaves_empty T calls answers T' it
 leaves_empty T (call ∷ calls) (Refused refusal ∷ answers) T' it = leaves_empty T calls answers T' it
 leaves_empty T (call ∷ calls) (Fault fault ∷ answers) T' (inl it) = leaves_empty T calls answers T' it
-leaves_empty T (call ∷ calls) (Fault fault ∷ answers) T' (inr it) = ap (λ (T : Tables). get T.bans []) it.1.1 ∙ keeps_empty T call.at call.token call.request it.1.0
+leaves_empty T (call ∷ calls) (Fault fault ∷ answers) T' (inr it) =
+    ap (λ (T : Tables). get T.bans []) it.1.1 ∙ keeps_empty T call.at call.token call.request it.1.0
 
 abbrev KeepsEmpty : Tables → Tables → Type 0
 KeepsEmpty T T' = get T'.bans [] ≡ get T.bans []
@@ -145,10 +158,16 @@ KeepsEmpty T T' = get T'.bans [] ≡ get T.bans []
 left_keeps : (task : Task) (result : Result ℕ End) (T T' : Tables) → TaskMayLeave task result T T' → KeepsEmpty T T'
 left_keeps (AnswerLines given left had has) result T T' it =
     (LinesEnd-choice (KeepsEmpty T T') (LineCallsLeave (CallsLeave by_tables T)) (λ a lines text T. Unit {0}) T'
-    (λ lines text told. ((LineCallsLeave-choice (KeepsEmpty T T') T' (CallsLeave by_tables T) (λ a calls answers T. Unit {0}) (λ calls answers leaves. (leaves_empty T calls answers T' leaves, tt)) lines text told).0, tt))
+    (λ lines text told. (
+      (LineCallsLeave-choice (KeepsEmpty T T') T' (CallsLeave by_tables T) (λ a calls answers T. Unit {0})
+          (λ calls answers leaves. (leaves_empty T calls answers T' leaves, tt)) lines text told).0,
+      tt,
+    ))
     given left had has it.ended it.tables).0
 left_keeps (AnswerConnections at requests coming coming' replies replies') result T T' it =
-    (LeavingTables-choice (AreAmong coming coming' replies replies') (KeepsEmpty T T') T' (CallsLeave by_tables T) (λ a calls answers T. Unit {0}) (λ calls answers leaves. (leaves_empty T calls answers T' leaves, tt)) by_tables at it.tables.0 T it.tables.2).0
+    (LeavingTables-choice (AreAmong coming coming' replies replies') (KeepsEmpty T T') T' (CallsLeave by_tables T)
+    (λ a calls answers T. Unit {0}) (λ calls answers leaves. (leaves_empty T calls answers T' leaves, tt))
+    by_tables at it.tables.0 T it.tables.2).0
 left_keeps (WriteReport had has) result T T' it = ap (λ (T : Tables). get T.bans []) it
 left_keeps CountWrong result T T' it = ap (λ (T : Tables). get T.bans []) it
 
@@ -157,7 +176,8 @@ toggled : (T : Tables) (o : Option (Unit {0})) → get T.bans [] ≡ o → (T' :
 toggled T None is = (
   record T { bans = insert T.bans [] tt },
   λ keeps.
-      let put : get (insert T.bans [] tt) [] ≡ Some tt = get-put T.bans [] tt [] ∙ ap (λ b. cond b (Some tt) (get T.bans [])) (same-refl []) in
+      let put : get (insert T.bans [] tt) [] ≡ Some tt =
+      get-put T.bans [] tt [] ∙ ap (λ b. cond b (Some tt) (get T.bans [])) (same-refl []) in
       let both : Some tt ≡ None = sym put ∙ keeps ∙ is in cc,
 )
 toggled T (Some there) is = (
@@ -176,7 +196,8 @@ not_same T = let it = toggled T (get T.bans []) refl in (it.0, λ same. it.1 (ap
 -- ---- so an index is there if some tables can't be left
 
 module _ {D : Type 0} {g : Ghosts D} where
-  pub there_by : (Are : Tables → Type 0) (last : FileStore D g) → OpensAgain last → CrashLeavesOnlyTables (over_files.recovers last) Are → ((T : Tables) × (¬ Are T))
+  pub there_by : (Are : Tables → Type 0) (last : FileStore D g) → OpensAgain last → CrashLeavesOnlyTables (over_files.recovers last) Are
+      → ((T : Tables) × (¬ Are T))
       → (image : Image) → (store.state last).may_leave image → ¬ HoldsNone image
   there_by Are last again left other image may none = ∥∥₁_elim (opens_again last again.0 again.1 image may) no_proof (λ it.
       other.1 (left it.0 it.1 other.0 (λ current. absurd (not_these none it.0 (none.only.alone it.0 it.2) current))))

@@ -1,5 +1,6 @@
 -- Replies that were dropped do not meet the words of the contracts.
-use Rattle.std.proofs.Common.{◌≡◌, ◌∙◌, ◌⊎◌, ◌<◌, ℕ, Bool, List, [], ◌∷◌, length, Option, Some, None, Result, Ok, Err, refl, sym, ap, subst, inl, inr, arith}
+use Rattle.std.proofs.Common.{◌≡◌, ◌∙◌, ◌⊎◌, ◌<◌, ℕ, Bool, List, [], ◌∷◌, length, Option, Some, None, Result, Ok, Err, refl, sym, ap, subst}
+use Rattle.std.proofs.Common.{inl, inr, arith}
 use Rattle.std.specs.Io.KnownBytes.{Appends, Keeps}
 use Rattle.index_desk.specs.Rules.{Rules, by_history, by_tables}
 use Rattle.index_message.specs.declared.message.Message.{Message}
@@ -10,7 +11,8 @@ use Rattle.index_http.specs.Replies.{Reply, head_text, message_reply, reply_head
 use Rattle.index_http.specs.Shows.{GivesMessage, asks_page}
 use Rattle.index_http.specs.declared.connection.IoEnd.{IoEnd}
 use Rattle.index_http.specs.declared.connection.IoEnd.TheVariants as io_end
-use Rattle.index_cli.specs.Connections.{AddsReply, ClientTaken, Exchange, IsUnsent, KnownList, KnownReplies, SentReply, StreamFaults, no_faults}
+use Rattle.index_cli.specs.Connections.{AddsReply, ClientTaken, Exchange, IsUnsent, KnownList, KnownReplies, SentReply, StreamFaults}
+use Rattle.index_cli.specs.Connections.{no_faults}
 use Rattle.index_cli.specs.Serving.{ExchangeIsAnswered, ExchangesAreAnswered, EndHasCause}
 use Rattle.index_rules.specs.Maps.{Bytes}
 use Rattle.index_rules.specs.Tables.{Tables}
@@ -26,13 +28,15 @@ no_write : (faults : StreamFaults) → faults ≡ no_faults → ¬ (0 < faults.w
 no_write faults none failed = let is : faults.writes ≡ 0 = ap (λ (it : StreamFaults). it.writes) none in absurd (omega (arith, is, failed))
 
 -- if its message asks for no page, its whole reply was sent, or nothing was sent and nothing changed
-replied_or_kept : (IsReply : Bytes → Type 0) (Unchanged : Type 0) (exchange : Exchange) (ended : Result (Unit {0}) IoEnd) → exchange.faults ≡ no_faults
+replied_or_kept : (IsReply : Bytes → Type 0) (Unchanged : Type 0) (exchange : Exchange) (ended : Result (Unit {0}) IoEnd)
+    → exchange.faults ≡ no_faults
     → (¬ GivesMessage asks_page exchange.given) → EndHasCause exchange ended → ReplyEnds IsReply Unchanged exchange.had exchange.has ended
     → ((text : Bytes) × IsReply text × Appends exchange.had exchange.has text) ⊎ (Unchanged × Keeps exchange.had exchange.has)
 replied_or_kept IsReply Unchanged exchange (Ok done) none page cause ends = inl ends
 replied_or_kept IsReply Unchanged exchange (Err io_end.ReadFault) none page cause ends = absurd (no_read exchange.faults none cause)
 replied_or_kept IsReply Unchanged exchange (Err io_end.OutOfMemory) none page cause ends = inr ends
-replied_or_kept IsReply Unchanged exchange (Err (io_end.WriteFault count)) none page cause ends = absurd (no_write exchange.faults none cause)
+replied_or_kept IsReply Unchanged exchange (Err (io_end.WriteFault count)) none page cause ends =
+    absurd (no_write exchange.faults none cause)
 replied_or_kept IsReply Unchanged exchange (Err (io_end.Cut count)) none page cause ends = absurd (page cause)
 
 refutes_unreplied : {S : Type 0} (rules : Rules S) → RefutesUnreplied rules
@@ -63,12 +67,14 @@ no_empty_reply to_head reply none =
     let is : 72 ≡ 0 = sym (begins_with_h to_head reply) ∙ ap first_of none in
     absurd (omega (arith, is))
 
-some_text : (Cause : Type 0) (at : ℕ) (T T' : Tables) (message : Message) (text : Bytes) → MessageGetsText by_tables Cause at T message text T' → ¬ (text ≡ [])
+some_text : (Cause : Type 0) (at : ℕ) (T T' : Tables) (message : Message) (text : Bytes)
+    → MessageGetsText by_tables Cause at T message text T' → ¬ (text ≡ [])
 some_text Cause at T T' (Faulty fault is_head) text it none = no_empty_reply is_head (message_reply fault) (sym it.0 ∙ none)
 some_text Cause at T T' (Whole request body) text it none = no_empty_reply _ it.0 (sym it.1 ∙ none)
 
 -- one exchange that sent nothing, without a fault, changed no table
-silent_one : (exchange : Exchange) (T T' : Tables) → exchange.had ≡ Some [] → exchange.has ≡ Some [] → exchange.faults ≡ no_faults → (¬ GivesMessage asks_page exchange.given)
+silent_one : (exchange : Exchange) (T T' : Tables) → exchange.had ≡ Some [] → exchange.has ≡ Some [] → exchange.faults ≡ no_faults
+    → (¬ GivesMessage asks_page exchange.given)
     → ExchangeIsAnswered by_tables exchange T T' → T' ≡ T
 silent_one exchange T T' had has none page it = elim (replied_or_kept _ _ exchange it.ended none page it.cause it.ends) [
   | inl (text, is, sent) ↦
@@ -88,7 +94,8 @@ first_reply (Some []) = nothing_sent
 first_reply (Some (it ∷ rest)) = it
 
 silent_run : (input : Bytes) (T T' : Tables) → (¬ GivesMessage asks_page (Some input)) → (exchanges : List Exchange) → length exchanges ≡ 1
-    → AreAmong (Some (input ∷ [])) (Some []) (Some []) (Some (nothing_sent ∷ [])) exchanges → ExchangesAreAnswered by_tables exchanges T T' → T' ≡ T
+    → AreAmong (Some (input ∷ [])) (Some []) (Some []) (Some (nothing_sent ∷ [])) exchanges → ExchangesAreAnswered by_tables exchanges T T'
+    → T' ≡ T
 silent_run input T T' page [] one are answered = absurd (omega (arith, one))
 silent_run input T T' page (exchange ∷ other ∷ earlier) one are answered = absurd (omega (arith, one))
 silent_run input T T' page (exchange ∷ []) one are (between, was, answered) =
@@ -96,12 +103,14 @@ silent_run input T T' page (exchange ∷ []) one are (between, was, answered) =
     let first : input ≡ took.0 = ap (λ (it : List Bytes). first_input it) took.2 in
     let given : exchange.given ≡ Some input = took.3 ∙ ap (λ (it : Bytes). Some it) (sym first) in
     let unsent = subst (λ (it : KnownReplies). IsUnsent it exchange.had) are.closed.1 are.closed.2 in
-    let adds = subst (λ (it : KnownReplies). AddsReply it (Some (nothing_sent ∷ [])) exchange.has exchange.faults) are.closed.1 are.closed.3 in
+    let adds = subst (λ (it : KnownReplies). AddsReply it (Some (nothing_sent ∷ [])) exchange.has exchange.faults)
+    are.closed.1 are.closed.3 in
     let closed : Some (nothing_sent ∷ []) ≡ Some (record { bytes = adds.0; faults = exchange.faults } ∷ []) = adds.2 in
     let reply : nothing_sent ≡ record { bytes = adds.0; faults = exchange.faults } = ap (λ (it : KnownReplies). first_reply it) closed in
     let has : exchange.has ≡ Some [] = adds.1 ∙ ap (λ (it : SentReply). Some it.bytes) (sym reply) in
     let none : exchange.faults ≡ no_faults = ap (λ (it : SentReply). it.faults) (sym reply) in
-    silent_one exchange between T' unsent has none (λ asked. page (subst (λ (it : Option Bytes). GivesMessage asks_page it) given asked)) answered ∙ was
+    silent_one exchange between T' unsent has none (λ asked. page (subst (λ (it : Option Bytes). GivesMessage asks_page it) given asked))
+    answered ∙ was
 
 refutes_silence : RefutesSilence
 refutes_silence at input found T T' page changed it =

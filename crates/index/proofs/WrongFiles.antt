@@ -1,5 +1,6 @@
 -- Wrong openings of two files do not meet the words of the contracts.
-use Rattle.std.proofs.Common.{◌≡◌, ◌∙◌, ◌⊎◌, ◌==◌, ℕ, Bool, true, false, Option, Some, IsTrue, length, nat_le, refl, sym, ap, inl, inr, arith}
+use Rattle.std.proofs.Common.{◌≡◌, ◌∙◌, ◌⊎◌, ◌==◌, ℕ, Bool, true, false, Option, Some, IsTrue, length, nat_le, refl, sym, ap, inl, inr}
+use Rattle.std.proofs.Common.{arith}
 use Rattle.std.proofs.lemmas.Bool.{cases_Bool}
 use Rattle.sqlite.specs.declared.file.Leftover.{Leftover}
 use Rattle.sqlite.specs.Files.{faults_left}
@@ -15,7 +16,8 @@ use Rattle.index.specs.declared.end.End.TheVariants as end
 use Rattle.index.specs.Openings.{HoldsSome, IsWhyForbidden, IsWhyNoDatabase}
 use Rattle.index.specs.Refuted.{RefutesOpening}
 use Rattle.index.specs.RefutedJobs.{RefutesFiles}
-use Rattle.index.proofs.WrongJobs.{refutes_causes, refutes_first_user, refutes_jobs, refutes_program, refutes_status, refutes_told, refutes_users}
+use Rattle.index.proofs.WrongJobs.{refutes_causes, refutes_first_user, refutes_jobs, refutes_program, refutes_status, refutes_told}
+use Rattle.index.proofs.WrongJobs.{refutes_users}
 use Rattle.index.proofs.WrongLemmas.{refutes_init, refutes_work}
 
 -- it tells that the files hold no database
@@ -37,14 +39,20 @@ never_none : (page_sums : Bool) (db log : ℕ) → is_none_of (cause_of_lengths 
 never_none page_sums db log = elim (cases_Bool (db == 0)) [
   | inl none ↦ elim (cases_Bool (nat_le log_with_a_page log)) [
     | inl room ↦ elim (cases_Bool page_sums) [ inl sums ↦ rw sums (rw none (rw room refl)) | inr plain ↦ rw plain (rw none (rw room refl)) ]
-    | inr short ↦ elim (cases_Bool page_sums) [ inl sums ↦ rw sums (rw none (rw short refl)) | inr plain ↦ rw plain (rw none (rw short refl)) ]
+    | inr short ↦ elim (cases_Bool page_sums) [
+      | inl sums ↦ rw sums (rw none (rw short refl))
+      | inr plain ↦ rw plain
+          (rw none (rw short refl))
+    ]
   ]
   | inr other ↦ elim (cases_Bool page_sums) [ inl sums ↦ rw sums (rw other refl) | inr plain ↦ rw plain (rw other refl) ]
 ]
 
 -- an empty file beside a log with room for a page has a cause
-emptied_has_cause : (page_sums : Bool) (db log : ℕ) → db ≡ 0 → IsTrue (nat_le log_with_a_page log) → cause_of_lengths page_sums db log ≡ Some cause.Emptied
-emptied_has_cause page_sums db log none room = rw none (elim (cases_Bool page_sums) [ inl sums ↦ rw sums (rw room refl) | inr plain ↦ rw plain (rw room refl) ])
+emptied_has_cause : (page_sums : Bool) (db log : ℕ) → db ≡ 0 → IsTrue (nat_le log_with_a_page log)
+    → cause_of_lengths page_sums db log ≡ Some cause.Emptied
+emptied_has_cause page_sums db log none room =
+    rw none (elim (cases_Bool page_sums) [ inl sums ↦ rw sums (rw room refl) | inr plain ↦ rw plain (rw room refl) ])
 
 module _ {D : Type 0} (g : Ghosts D) where
   no_reason : (start : Image) (left : Leftover D g) → HoldsSome start → faults_left left ≡ 0

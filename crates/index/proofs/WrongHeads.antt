@@ -22,7 +22,8 @@ same_status status other fields lines size more low below same = same_digits sta
     (sym (digits_in other lines more) ∙ ap (λ (it : List ℕ). take 3 (behind_version it)) same ∙ digits_in status fields size)
 
 -- the first digit of the status, in the text of a reply or at its front
-digit_in : (to_head : Bool) (reply : Reply) (more : Bytes) → first_of (behind_version (reply_text to_head reply ++ more)) ≡ 48 + reply.status / 100
+digit_in : (to_head : Bool) (reply : Reply) (more : Bytes)
+    → first_of (behind_version (reply_text to_head reply ++ more)) ≡ 48 + reply.status / 100
 unfolding reply_head head_text
 digit_in to_head reply more = refl
 

@@ -1,5 +1,6 @@
 -- Wrong ends of jobs and of the program, and wrong causes, do not meet the words of the contracts.
-use Rattle.std.proofs.Common.{◌≡◌, ◌∙◌, ℕ, Bool, true, false, not, ◌==◌, ◌&&◌, [], Option, Some, None, Result, Ok, Err, refl, sym, ap, subst, inl, inr, arith}
+use Rattle.std.proofs.Common.{◌≡◌, ◌∙◌, ℕ, Bool, true, false, not, ◌==◌, ◌&&◌, [], Option, Some, None, Result, Ok, Err, refl, sym, ap}
+use Rattle.std.proofs.Common.{subst, inl, inr, arith}
 use Rattle.std.specs.Prelude.{◌↔◌, IfOk, IfErr, IsErr, IsErrAnd, if◌then◌else◌, is_err, is_some}
 use Rattle.std.specs.Process.{exit_status}
 use Rattle.std.specs.declared.process.ExitCode.{ExitCode}
@@ -39,7 +40,9 @@ use Rattle.index.specs.Ends.{closing_of, end_by, end_of_report, end_of_reporting
 use Rattle.index.specs.Jobs.{ComesOfInit, ComesOfRun, IsStatusOf, IsStatusOfCheck, IsStatusOfInit, JobEnds, had_by, has_by}
 use Rattle.index.specs.Openings.{IsBadFirstUserByHex, IsToldOf, cause_of_store}
 use Rattle.index.specs.Refuted.{HoldsNoIndex}
-use Rattle.index.specs.RefutedJobs.{AreAllClean, NamesFirstUser, RefutesCauses, RefutesFirstUser, RefutesJobs, RefutesProgram, RefutesStatus, RefutesTold, RefutesUserCauses, Wrote, counts_charges, has_no_cause, is_refused, makes_index, works_on_index, writes_report}
+use Rattle.index.specs.RefutedJobs.{AreAllClean, NamesFirstUser, RefutesCauses, RefutesFirstUser, RefutesJobs, RefutesProgram}
+use Rattle.index.specs.RefutedJobs.{RefutesStatus, RefutesTold, RefutesUserCauses, Wrote, counts_charges, has_no_cause, is_refused}
+use Rattle.index.specs.RefutedJobs.{makes_index, works_on_index, writes_report}
 use Rattle.index.specs.Runs.{Holds, HoldsNone, InitEndsOnFiles, Ran, RunEndsOnFiles}
 use Rattle.index.specs.SecondLines.{IsWhyBadFirstUser, JobPrintsCause, cause_of_open}
 use Rattle.index.specs.Tasks.{CountWrong, Does, Task, WriteReport}
@@ -59,15 +62,18 @@ no_error status told is = no_truth (ap (λ (it : Result ExitCode End). is_well i
 
 module _ {D K : Type 0} (g : Ghosts D) (start : Image) (sink : SinkStep K) (status : ExitCode) where
   -- without an index no work ends well
-  no_run_well : (task : Task) (found : Result ℕ End) → AreAllClean g → HoldsNoIndex start → ComesOfRun g task start found → ¬ IsStatusOf found (Ok status)
+  no_run_well : (task : Task) (found : Result ℕ End) → AreAllClean g → HoldsNoIndex start → ComesOfRun g task start found
+      → ¬ IsStatusOf found (Ok status)
   no_run_well task (Ok count) clean none comes is = (refutes_work g).comes task start count clean none comes
   no_run_well task (Err told) clean none comes is = no_error status told is
 
-  no_check_well : (found : Result ℕ End) → AreAllClean g → HoldsNoIndex start → ComesOfRun g CountWrong start found → ¬ IsStatusOfCheck sink found (Ok status)
+  no_check_well : (found : Result ℕ End) → AreAllClean g → HoldsNoIndex start → ComesOfRun g CountWrong start found
+      → ¬ IsStatusOfCheck sink found (Ok status)
   no_check_well (Ok count) clean none comes is = (refutes_work g).comes CountWrong start count clean none comes
   no_check_well (Err told) clean none comes is = no_error status told is.0
 
-  pub none_well : (asked : Job) → AreAllClean g → HoldsNoIndex start → works_on_index asked ≡ true → ¬ JobEnds g asked start sink (Ok status)
+  pub none_well : (asked : Job) → AreAllClean g → HoldsNoIndex start → works_on_index asked ≡ true
+      → ¬ JobEnds g asked start sink (Ok status)
   none_well (job.Init db user digits page_sums) clean none works ends = no_truth (sym works)
   none_well (job.Apply None) clean none works ends = no_truth (sym works)
   none_well (job.Apply (Some path)) clean none works (inl memory) = no_error status end.OutOfMemory memory
@@ -84,14 +90,16 @@ module _ {D K : Type 0} (g : Ghosts D) (start : Image) (sink : SinkStep K) (stat
   no_init_well user digits page_sums (Err told) clean some comes is = no_error status told is.0
 
   pub anew_well : (asked : Job) → AreAllClean g → (¬ HoldsNone start) → makes_index asked ≡ true → ¬ JobEnds g asked start sink (Ok status)
-  anew_well (job.Init db user digits page_sums) clean some makes (made, comes, is) = no_init_well user.now digits.now page_sums made clean some comes is
+  anew_well (job.Init db user digits page_sums) clean some makes (made, comes, is) =
+      no_init_well user.now digits.now page_sums made clean some comes is
   anew_well (job.Apply db) clean some makes ends = no_truth (sym makes)
   anew_well (job.Serve db args) clean some makes ends = no_truth (sym makes)
   anew_well (job.Report db) clean some makes ends = no_truth (sym makes)
   anew_well (job.Check db) clean some makes ends = no_truth (sym makes)
 
   -- nor with a first user who is not valid
-  no_user_run : (user digits : Bytes) (page_sums : Bool) → IsBadFirstUserByHex user digits → (run : Result (Result (Files D) (Unclosed D g)) (Unused D g))
+  no_user_run : (user digits : Bytes) (page_sums : Bool) → IsBadFirstUserByHex user digits
+      → (run : Result (Result (Files D) (Unclosed D g)) (Unused D g))
       → InitEndsOnFiles g user digits page_sums start run → IfErr run (λ it. IsErrAnd {T = Unit {0}} (Ok tt) (IsToldOf it.why it.left)) → ⊥
   no_user_run user digits page_sums bad (Ok closed) ends refused =
       no_truth (sym (ap (λ (it : Result (Result (Files D) (Unclosed D g)) (Unused D g)). is_err it) (ends.bad_first_user.1 bad)))
@@ -132,7 +140,8 @@ module _ {D K : Type 0} (g : Ghosts D) (start : Image) (sink : SinkStep K) (stat
   Counted count = (T : Tables) × Holds start T × (count ≡ wrong_charges_in T)
 
   counted_in : (count : ℕ) → AreAllClean g → (closed : Result (Files D) (Unclosed D g)) (told : Result ℕ End)
-      → IfOk closed (λ files. AreClean g files.log files.db → Ran g (Does CountWrong told) start files) → Ok count ≡ end_by told (closing_of closed) → Counted count
+      → IfOk closed (λ files. AreClean g files.log files.db → Ran g (Does CountWrong told) start files)
+      → Ok count ≡ end_by told (closing_of closed) → Counted count
   counted_in count clean (Ok files) (Ok n) ran is =
       let it = ran (clean files.log files.db) in
       (it.before, it.held, ap (λ (it : Result ℕ End). number_in it) is ∙ it.did.count)
@@ -140,7 +149,8 @@ module _ {D K : Type 0} (g : Ghosts D) (start : Image) (sink : SinkStep K) (stat
   counted_in count clean (Err unclosed) told ran is = absurd (no_end told unclosed.fault count is)
 
   counted_by : (count : ℕ) → AreAllClean g → (run : Result (Finished D g) (Unused D g)) → RunEndsOnFiles g CountWrong start run
-      → IfOk run (λ it. Ok count ≡ end_by it.end (closing_of it.closed)) → IfErr run (λ it. IsErrAnd {T = ℕ} (Ok count) (IsToldOf it.why it.left)) → Counted count
+      → IfOk run (λ it. Ok count ≡ end_by it.end (closing_of it.closed))
+      → IfErr run (λ it. IsErrAnd {T = ℕ} (Ok count) (IsToldOf it.why it.left)) → Counted count
   counted_by count clean (Ok run) ends done refused = counted_in count clean run.closed run.end ends.ran done
   counted_by count clean (Err it) ends done refused = absurd refused
 
@@ -154,21 +164,24 @@ module _ {D K : Type 0} (g : Ghosts D) (start : Image) (sink : SinkStep K) (stat
       (it.0, it.1, subst (λ (n : ℕ). (exit_status status ≡ 0) ↔ (n ≡ 0)) it.2 is.1)
   counted (Err told) clean comes is = absurd (no_error status told is.0)
 
-  counted_well : (asked : Job) → AreAllClean g → counts_charges asked ≡ true → JobEnds g asked start sink (Ok status) → (T : Tables) × Holds start T × TellsWrong T
+  counted_well : (asked : Job) → AreAllClean g → counts_charges asked ≡ true → JobEnds g asked start sink (Ok status)
+      → (T : Tables) × Holds start T × TellsWrong T
   counted_well (job.Init db user digits page_sums) clean counts ends = absurd (no_truth (sym counts))
   counted_well (job.Apply db) clean counts ends = absurd (no_truth (sym counts))
   counted_well (job.Serve db args) clean counts ends = absurd (no_truth (sym counts))
   counted_well (job.Report db) clean counts ends = absurd (no_truth (sym counts))
   counted_well (job.Check db) clean counts (found, comes, is) = counted found clean comes is
 
-  wrong_well : (asked : Job) → AreAllClean g → counts_charges asked ≡ true → ((T : Tables) → Holds start T → ¬ (wrong_charges_in T ≡ 0)) → exit_status status ≡ 0
+  wrong_well : (asked : Job) → AreAllClean g → counts_charges asked ≡ true → ((T : Tables) → Holds start T → ¬ (wrong_charges_in T ≡ 0))
+      → exit_status status ≡ 0
       → ¬ JobEnds g asked start sink (Ok status)
   wrong_well asked clean counts wrong well ends = let it = counted_well asked clean counts ends in tells it.0 (wrong it.0 it.1) it.2
     where
       tells : (T : Tables) → (¬ (wrong_charges_in T ≡ 0)) → ¬ TellsWrong T
       tells T wrong both = wrong (both.0 well)
 
-  right_well : (asked : Job) → AreAllClean g → counts_charges asked ≡ true → ((T : Tables) → Holds start T → wrong_charges_in T ≡ 0) → (¬ (exit_status status ≡ 0))
+  right_well : (asked : Job) → AreAllClean g → counts_charges asked ≡ true → ((T : Tables) → Holds start T → wrong_charges_in T ≡ 0)
+      → (¬ (exit_status status ≡ 0))
       → ¬ JobEnds g asked start sink (Ok status)
   right_well asked clean counts right other ends = let it = counted_well asked clean counts ends in tells it.0 (right it.0 it.1) it.2
     where
@@ -182,20 +195,23 @@ module _ {D K : Type 0} (g : Ghosts D) (start : Image) (sink : SinkStep K) (stat
   abbrev TaskHere : Task
   TaskHere = WriteReport (had_by sink) (has_by sink)
 
-  reported_as : (T : Tables) (count : ℕ) (ended : Result (Unit {0}) ReportFault) → Ok count ≡ end_of_reporting ended → Reports (report_in T) (had_by sink) (has_by sink) ended
+  reported_as : (T : Tables) (count : ℕ) (ended : Result (Unit {0}) ReportFault) → Ok count ≡ end_of_reporting ended
+      → Reports (report_in T) (had_by sink) (has_by sink) ended
       → Wrote sink (report_in T)
   reported_as T count (Ok done) is wrote = wrote
   reported_as T count (Err fault) is wrote = absurd (is_no_error count (end_of_report fault) is)
 
   reported_in : (count : ℕ) → AreAllClean g → (closed : Result (Files D) (Unclosed D g)) (told : Result ℕ End)
-      → IfOk closed (λ files. AreClean g files.log files.db → Ran g (Does TaskHere told) start files) → Ok count ≡ end_by told (closing_of closed) → Reported
+      → IfOk closed (λ files. AreClean g files.log files.db → Ran g (Does TaskHere told) start files)
+      → Ok count ≡ end_by told (closing_of closed) → Reported
   reported_in count clean (Ok files) told ran is =
       let it = ran (clean files.log files.db) in
       (it.before, it.held, reported_as it.before count it.did.ended (is ∙ it.did.is) it.did.reports)
   reported_in count clean (Err unclosed) told ran is = absurd (no_end told unclosed.fault count is)
 
   reported_by : (count : ℕ) → AreAllClean g → (run : Result (Finished D g) (Unused D g)) → RunEndsOnFiles g TaskHere start run
-      → IfOk run (λ it. Ok count ≡ end_by it.end (closing_of it.closed)) → IfErr run (λ it. IsErrAnd {T = ℕ} (Ok count) (IsToldOf it.why it.left)) → Reported
+      → IfOk run (λ it. Ok count ≡ end_by it.end (closing_of it.closed))
+      → IfErr run (λ it. IsErrAnd {T = ℕ} (Ok count) (IsToldOf it.why it.left)) → Reported
   reported_by count clean (Ok run) ends done refused = reported_in count clean run.closed run.end ends.ran done
   reported_by count clean (Err it) ends done refused = absurd refused
 
@@ -249,8 +265,10 @@ module _ {D K : Type 0} (g : Ghosts D) (start : Image) (sink : SinkStep K) (stat
 
   pub refutes_program : RefutesProgram g start sink status
   refutes_program = record {
-    none = λ asked clean none works other it. no_program asked (λ told. none_well g start sink told asked clean none works) other it.0 it.1 it.3;
-    anew = λ asked clean some makes other it. no_program asked (λ told. anew_well g start sink told asked clean some makes) other it.0 it.1 it.3;
+    none = λ asked clean none works other it. no_program asked (λ told. none_well g start sink told asked clean none works)
+        other it.0 it.1 it.3;
+    anew = λ asked clean some makes other it. no_program asked (λ told. anew_well g start sink told asked clean some makes)
+        other it.0 it.1 it.3;
     memory = λ other it. other it;
     mistake = λ error shown other it. other (it.1 shown);
     help = λ error shown first second it. elim (it.0 shown) [
@@ -271,7 +289,8 @@ is_in_use _ = false
 
 -- no failed call of the files has the cause that another program has them
 first_cause : (caught refused used : Bool)
-    → is_in_use (if caught then Some cause.Damaged else if refused then Some cause.Full else if used then None else Some cause.DiskFailed) ≡ false
+    → is_in_use (if caught then Some cause.Damaged else if refused then Some cause.Full else if used then None else Some cause.DiskFailed)
+    ≡ false
 first_cause true refused used = refl
 first_cause false true used = refl
 first_cause false false true = refl
@@ -301,7 +320,8 @@ module _ {D : Type 0} {g : Ghosts D} where
   told_kind why told (Some (unused.Shut left)) failed kind is = no_truth (sym failed ∙ ap is_store (sym is) ∙ kind)
   told_kind why told (Some (unused.Refused left)) failed kind is = let it = is.1 failed in no_truth (sym (ap is_store it.1) ∙ kind)
 
-  told_opened : (why : End) (left : Option (Left D g)) → is_store why ≡ true → is_refused left ≡ true → ¬ IsToldOf why left (end.Store (Some cause.InUse))
+  told_opened : (why : End) (left : Option (Left D g)) → is_store why ≡ true → is_refused left ≡ true
+      → ¬ IsToldOf why left (end.Store (Some cause.InUse))
   told_opened why None failed refused is = no_truth (sym refused)
   told_opened why (Some (unused.Shut left)) failed refused is = no_truth (sym refused)
   told_opened why (Some (unused.Refused left)) failed refused is =
@@ -318,7 +338,8 @@ refutes_told g = record { other = told_other; kind = told_kind; opened = told_op
 
 -- ---- causes
 
-other_open : (asked : Job) (told : Option Cause) (fault : OpenFault) → (¬ (fault ≡ open_fault.BadFirstUser)) → (¬ (told ≡ cause_of_open fault))
+other_open : (asked : Job) (told : Option Cause) (fault : OpenFault) → (¬ (fault ≡ open_fault.BadFirstUser))
+    → (¬ (told ≡ cause_of_open fault))
     → ¬ JobPrintsCause asked (end.Open fault) told
 other_open asked told open_fault.BadFirstUser differs other is = differs refl
 other_open asked told open_fault.NotEmpty differs other is = other is
@@ -327,7 +348,8 @@ other_open asked told open_fault.OtherVersion differs other is = other is
 other_open asked told open_fault.OutOfMemory differs other is = other is
 other_open asked told open_fault.Store differs other is = other is
 
-other_none : (asked : Job) (told : Option Cause) (ended : End) → has_no_cause ended ≡ true → (¬ (told ≡ None)) → ¬ JobPrintsCause asked ended told
+other_none : (asked : Job) (told : Option Cause) (ended : End) → has_no_cause ended ≡ true → (¬ (told ≡ None))
+    → ¬ JobPrintsCause asked ended told
 other_none asked told (end.Open fault) kind other is = no_truth (sym kind)
 other_none asked told (end.Lines early) kind other is = other is
 other_none asked told (end.Connections early) kind other is = other is
@@ -359,7 +381,8 @@ no_two : (first second : Cause) (n m : ℕ) → number_of first ≡ n → number
 no_two first second n m is other same = sym is ∙ ap number_of same ∙ other
 
 -- the cause that is told is true
-true_cause : (user digits : Bytes) (said : Cause) → ((why : Cause) × (Some said ≡ Some why) × IsWhyBadFirstUser user digits why) → IsWhyBadFirstUser user digits said
+true_cause : (user digits : Bytes) (said : Cause) → ((why : Cause) × (Some said ≡ Some why) × IsWhyBadFirstUser user digits why)
+    → IsWhyBadFirstUser user digits said
 true_cause user digits said it =
     let both : Some said ≡ Some it.0 = it.1 in
     let same : said ≡ it.0 = cc in
@@ -368,7 +391,8 @@ true_cause user digits said it =
 -- the invalid first user is told a cause that is true
 module _ (Valid : Bytes → Bytes → Type 0) (said : Cause)
     (refuted : (user digits : Bytes) → Valid user digits → ¬ IsWhyBadFirstUser user digits said) where
-  no_cause : (asked : Job) → NamesFirstUser (λ user digits. IsBadFirstUserByHex user digits × Valid user digits) asked → ¬ TellsBadUser asked (Some said)
+  no_cause : (asked : Job) → NamesFirstUser (λ user digits. IsBadFirstUserByHex user digits × Valid user digits) asked
+      → ¬ TellsBadUser asked (Some said)
   no_cause (job.Init db user digits page_sums) bad is = refuted user.now digits.now bad.1 (true_cause user.now digits.now said (is bad.0))
   no_cause (job.Apply db) bad is = absurd bad
   no_cause (job.Serve db args) bad is = absurd bad
@@ -407,7 +431,8 @@ refutes_users asked = record {
 
 -- ---- the first user
 
-no_bad_user : (user digits digest : Bytes) → read_digest digits ≡ Some digest → (¬ IsBadFirstUser user digest) → ¬ IsBadFirstUserByHex user digits
+no_bad_user : (user digits digest : Bytes) → read_digest digits ≡ Some digest → (¬ IsBadFirstUser user digest)
+    → ¬ IsBadFirstUserByHex user digits
 no_bad_user user digits digest is valid (inl none) =
     let no : Some digest ≡ None = sym is ∙ none in
     cc no

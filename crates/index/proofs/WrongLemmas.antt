@@ -1,5 +1,6 @@
 -- Wrong outcomes do not meet the words of the contracts.
-use Rattle.std.proofs.Common.{◌≡◌, ◌∙◌, ◌⊎◌, ◌+◌, ◌&&◌, ℕ, suc, Bool, true, false, Option, None, Some, Result, Ok, Err, refl, sym, ap, inl, inr, List, [], length, arith}
+use Rattle.std.proofs.Common.{◌≡◌, ◌∙◌, ◌⊎◌, ◌+◌, ◌&&◌, ℕ, suc, Bool, true, false, Option, None, Some, Result, Ok, Err, refl, sym, ap, inl}
+use Rattle.std.proofs.Common.{inr, List, [], length, arith}
 use Rattle.std.specs.Prelude.{IfOk, IfErr, IsErrAnd, if◌then◌else◌, is_ok}
 use Rattle.sqlite.specs.Files.{image_of}
 use Rattle.sqlite.specs.Recovery.{Image}
@@ -59,13 +60,15 @@ no_end (Err early) fault count is = is_neither (is_store early && is_store fault
 module _ {D : Type 0} (g : Ghosts D) where
   no_work : (task : Task) (start : Image) (count : ℕ) (clean : (log db : D) → AreClean g log db) (none : HoldsNoIndex start)
       (closed : Result (Files D) (Unclosed D g)) (told : Result ℕ End)
-      → IfOk closed (λ files. AreClean g files.log files.db → Ran g (Does task told) start files) → ¬ (Ok count ≡ end_by told (closing_of closed))
+      → IfOk closed (λ files. AreClean g files.log files.db → Ran g (Does task told) start files)
+      → ¬ (Ok count ≡ end_by told (closing_of closed))
   no_work task start count clean none (Ok files) told ran is = let it = ran (clean files.log files.db) in none (it.before, it.held)
   no_work task start count clean none (Err unclosed) told ran is = no_end told unclosed.fault count is
 
   no_run : (task : Task) (start : Image) (count : ℕ) (clean : (log db : D) → AreClean g log db) (none : HoldsNoIndex start)
       (run : Result (Finished D g) (Unused D g)) → RunEndsOnFiles g task start run
-      → IfOk run (λ it. Ok count ≡ end_by it.end (closing_of it.closed)) → IfErr run (λ it. IsErrAnd {T = ℕ} (Ok count) (IsToldOf it.why it.left)) → ⊥
+      → IfOk run (λ it. Ok count ≡ end_by it.end (closing_of it.closed))
+      → IfErr run (λ it. IsErrAnd {T = ℕ} (Ok count) (IsToldOf it.why it.left)) → ⊥
   no_run task start count clean none (Ok run) ends done refused = no_work task start count clean none run.closed run.end ends.ran done
   no_run task start count clean none (Err it) ends done refused = absurd refused
 
@@ -82,7 +85,8 @@ module _ {D : Type 0} (g : Ghosts D) where
   not_anew T start files (inl none) it = current_is_there _ _ it.left.seen none
   not_anew T start files (inr some) it = some it.held
 
-  no_made : (user digits : Bytes) (start : Image) (clean : (log db : D) → AreClean g log db) (some : ¬ HoldsNone start) (closed : Result (Files D) (Unclosed D g))
+  no_made : (user digits : Bytes) (start : Image) (clean : (log db : D)
+      → AreClean g log db) (some : ¬ HoldsNone start) (closed : Result (Files D) (Unclosed D g))
       → IfOk closed (λ files. AreClean g files.log files.db → DigestHas digits (λ digest. Created g (first_tables user digest) start files))
       → ¬ (Ok tt ≡ closing_of closed)
   no_made user digits start clean some (Ok files) created is = some (created (clean files.log files.db)).2.held
@@ -92,18 +96,25 @@ module _ {D : Type 0} (g : Ghosts D) where
   no_init : (user digits : Bytes) (page_sums : Bool) (start : Image) (clean : (log db : D) → AreClean g log db) (some : ¬ HoldsNone start)
       (run : Result (Result (Files D) (Unclosed D g)) (Unused D g)) → InitEndsOnFiles g user digits page_sums start run
       → IfOk run (λ closed. Ok tt ≡ closing_of closed) → IfErr run (λ it. IsErrAnd {T = Unit {0}} (Ok tt) (IsToldOf it.why it.left)) → ⊥
-  no_init user digits page_sums start clean some (Ok closed) ends done refused = no_made user digits start clean some closed ends.created done
+  no_init user digits page_sums start clean some (Ok closed) ends done refused =
+      no_made user digits start clean some closed ends.created done
   no_init user digits page_sums start clean some (Err it) ends done refused = absurd refused
 
-  not_allowed : (page_sums : Bool) (start : Image) (cause : Cause) (clean : (log db : D) → AreClean g log db) → cause_of_files page_sums start ≡ Some cause
-      → (closed : Result (Files D) (Unclosed D g)) → (IsCleanClosed closed → cause_of_files page_sums start ≡ None) → ¬ (Ok tt ≡ closing_of closed)
-  not_allowed page_sums start cause clean forbidden (Ok files) allowed is = let no : None ≡ Some cause = sym (allowed (clean files.log files.db)) ∙ forbidden in cc no
-  not_allowed page_sums start cause clean forbidden (Err unclosed) allowed is = let no : true ≡ false = ap (λ (it : Result (Unit {0}) End). is_ok it) is in cc no
+  not_allowed : (page_sums : Bool) (start : Image) (cause : Cause) (clean : (log db : D) → AreClean g log db)
+      → cause_of_files page_sums start ≡ Some cause
+      → (closed : Result (Files D) (Unclosed D g)) → (IsCleanClosed closed → cause_of_files page_sums start ≡ None)
+      → ¬ (Ok tt ≡ closing_of closed)
+  not_allowed page_sums start cause clean forbidden (Ok files) allowed is = let no : None ≡ Some cause =
+      sym (allowed (clean files.log files.db)) ∙ forbidden in cc no
+  not_allowed page_sums start cause clean forbidden (Err unclosed) allowed is = let no : true ≡ false =
+      ap (λ (it : Result (Unit {0}) End). is_ok it) is in cc no
 
   no_forbidden_init : (user digits : Bytes) (page_sums : Bool) (start : Image) (cause : Cause) (clean : (log db : D) → AreClean g log db)
-      (forbidden : cause_of_files page_sums start ≡ Some cause) (run : Result (Result (Files D) (Unclosed D g)) (Unused D g)) → InitEndsOnFiles g user digits page_sums start run
+      (forbidden : cause_of_files page_sums start ≡ Some cause) (run : Result (Result (Files D) (Unclosed D g)) (Unused D g))
+      → InitEndsOnFiles g user digits page_sums start run
       → IfOk run (λ closed. Ok tt ≡ closing_of closed) → IfErr run (λ it. IsErrAnd {T = Unit {0}} (Ok tt) (IsToldOf it.why it.left)) → ⊥
-  no_forbidden_init user digits page_sums start cause clean forbidden (Ok closed) ends done refused = not_allowed page_sums start cause clean forbidden closed ends.allowed done
+  no_forbidden_init user digits page_sums start cause clean forbidden (Ok closed) ends done refused =
+      not_allowed page_sums start cause clean forbidden closed ends.allowed done
   no_forbidden_init user digits page_sums start cause clean forbidden (Err it) ends done refused = absurd refused
 
   pub refutes_init : RefutesInit g
@@ -114,7 +125,8 @@ module _ {D : Type 0} (g : Ghosts D) where
     anew = λ user digits page_sums start files clean some it. some (it.created clean).2.held;
     leads = λ user token start files emptied it. current_is_there _ _ (it.made emptied.0 (image_of g files) (inl refl)).1 emptied.1;
     comes = λ user digits page_sums start clean some it. no_init user digits page_sums start clean some it.run it.ends it.done it.refused;
-    forbidden = λ user digits page_sums start cause clean is it. no_forbidden_init user digits page_sums start cause clean is it.run it.ends it.done it.refused;
+    forbidden = λ user digits page_sums start cause clean is it. no_forbidden_init user digits page_sums start cause clean is it.run it.ends
+        it.done it.refused;
   }
 
 -- ---- what is said of a task
@@ -126,7 +138,8 @@ counted_all tells T given left had has count (Ok n) is ends =
     ap (λ (it : Result ℕ End). number_in it) is ∙ ends.counted ∙ ap (λ (input : List ℕ). length (lines_of input)) ends.is_input
 counted_all tells T given left had has count (Err early) is ends = absurd (is_no_error count (end.Lines early) is)
 
-wrong_lines : (given : List ℕ) (left had has : Option (List ℕ)) (T T' : Tables) (count : ℕ) → (¬ (count ≡ length (lines_of given))) → RefutesLines given left had has T T' count
+wrong_lines : (given : List ℕ) (left had has : Option (List ℕ)) (T T' : Tables) (count : ℕ) → (¬ (count ≡ length (lines_of given)))
+    → RefutesLines given left had has T T' count
 wrong_lines given left had has T T' count wrong = record {
   answers = λ it. wrong (counted_all _ _ given left had has count it.ended it.is it.tables);
   first = λ it. wrong (counted_all _ _ given left had has count it.ended it.is it.tables);
@@ -134,7 +147,8 @@ wrong_lines given left had has T T' count wrong = record {
 }
 
 -- of no connections none was answered
-none_came : (later : KnownList) (replies replies' : KnownReplies) (exchanges : List Exchange) → AreAmong (Some []) later replies replies' exchanges → length exchanges ≡ 0
+none_came : (later : KnownList) (replies replies' : KnownReplies) (exchanges : List Exchange)
+    → AreAmong (Some []) later replies replies' exchanges → length exchanges ≡ 0
 none_came later replies replies' exchanges it =
     let came = came_fewer [] it.later exchanges it.came in
     let sum : 0 ≡ length came.0 + length exchanges = came.2 in
@@ -146,11 +160,15 @@ too_few later replies replies' exchanges requests count are counted is =
     let none = none_came later replies replies' exchanges are in
     omega (arith, none, counted, is)
 
-wrong_connections : (at : Option ℕ) (requests found : ℕ) (later : KnownList) (replies replies' : KnownReplies) (T T' : Tables) → RefutesConnections at requests found later replies replies' T T'
+wrong_connections : (at : Option ℕ) (requests found : ℕ) (later : KnownList) (replies replies' : KnownReplies) (T T' : Tables)
+    → RefutesConnections at requests found later replies replies' T T'
 wrong_connections at requests found later replies replies' T T' = record {
-  answers = λ it. let serves = it.tables.2 in too_few later replies replies' serves.exchanges requests it.tables.0 serves.are serves.counted it.tables.1;
-  first = λ it. let serves = it.tables.2 in too_few later replies replies' serves.exchanges requests it.tables.0 serves.are serves.counted it.tables.1;
-  leaves = λ it. let serves = it.tables.2 in too_few later replies replies' serves.exchanges requests it.tables.0 serves.are.0 serves.counted it.tables.1;
+  answers = λ it. let serves = it.tables.2 in too_few later replies replies' serves.exchanges requests it.tables.0 serves.are serves.counted
+      it.tables.1;
+  first = λ it. let serves = it.tables.2 in too_few later replies replies' serves.exchanges requests it.tables.0 serves.are serves.counted
+      it.tables.1;
+  leaves = λ it. let serves = it.tables.2 in too_few later replies replies' serves.exchanges requests it.tables.0 serves.are.0
+      serves.counted it.tables.1;
 }
 
 no_memory : (ended : Result (Unit {0}) ServeEnd) → ¬ (Err end.OutOfMemory ≡ end_of_serving ended)

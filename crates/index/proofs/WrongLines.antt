@@ -1,5 +1,6 @@
 -- Wrong counts of faults, and wrong answers to lines, do not meet the words of the contracts.
-use Rattle.std.proofs.Common.{◌≡◌, ◌≢◌, ◌∙◌, ◌+◌, ◌<◌, ℕ, List, [], ◌∷◌, ◌++◌, length, Option, Some, None, Ok, refl, sym, ap, subst, inl, inr, arith, append-nil, length-append}
+use Rattle.std.proofs.Common.{◌≡◌, ◌≢◌, ◌∙◌, ◌+◌, ◌<◌, ℕ, List, [], ◌∷◌, ◌++◌, length, Option, Some, None, Ok, refl, sym, ap, subst, inl}
+use Rattle.std.proofs.Common.{inr, arith, append-nil, length-append}
 use Rattle.std.proofs.lemmas.List.{append_assoc, append_cancel_left, append_cancel_right}
 use Rattle.std.proofs.lemmas.List.Elements.{All-head, All-tail}
 use Rattle.index_io.specs.Counts.{last_count}
@@ -15,7 +16,8 @@ use Rattle.index_rules.specs.declared.answer.Answer.TheVariants as answer
 use Rattle.index_rules.specs.declared.answer.Fault.TheVariants.{Store}
 use Rattle.index_rules.specs.Maps.{Bytes}
 use Rattle.index_rules.specs.Tables.{Tables}
-use Rattle.index.specs.RefutedLines.{RefutesAdded, RefutesCounts, RefutesFaults, RefutesLineCounts, RefutesLongLine, RefutesNumbers, RefutesStoreLine, store_line, with_feed}
+use Rattle.index.specs.RefutedLines.{RefutesAdded, RefutesCounts, RefutesFaults, RefutesLineCounts, RefutesLongLine, RefutesNumbers}
+use Rattle.index.specs.RefutedLines.{RefutesStoreLine, store_line, with_feed}
 use Rattle.index.proofs.WrongTexts.{accepted_is_told, store_is_told}
 
 -- ---- faults
@@ -35,7 +37,8 @@ refutes_counts before now = record {
 -- the text of one line, from the text of all
 one_text : (said first more : Bytes) → more ≡ [] → said ++ line_feed ∷ [] ≡ (first ++ line_feed ∷ []) ++ more → first ≡ said
 one_text said first more none is =
-    let same : said ++ line_feed ∷ [] ≡ first ++ line_feed ∷ [] = is ∙ ap (λ (it : Bytes). (first ++ line_feed ∷ []) ++ it) none ∙ append-nil (first ++ line_feed ∷ []) in
+    let same : said ++ line_feed ∷ [] ≡ first ++ line_feed ∷ [] =
+    is ∙ ap (λ (it : Bytes). (first ++ line_feed ∷ []) ++ it) none ∙ append-nil (first ++ line_feed ∷ []) in
     sym (append_cancel_right said first (line_feed ∷ []) same)
 
 -- the number of faults that one line reports
@@ -44,11 +47,14 @@ one_number faults one others n sum none is = omega (arith, sum, none, is)
 
 store_number : (line : Bytes) (T : Tables) (faults : ℕ) → LinesReportFaults faults (line ∷ []) store_line T → faults ≡ 1
 store_number line T faults (first, more, one, others, fault, (none, no_others), sum, text) =
-    one_number faults one others 1 sum no_others (store_is_told first one (one_text (answer_text_of (answer.Fault Store)) first more none text) fault)
+    one_number faults one others 1 sum no_others
+    (store_is_told first one (one_text (answer_text_of (answer.Fault Store)) first more none text) fault)
 
-accepted_number : (line : Bytes) (T : Tables) (faults : ℕ) → LinesReportFaults faults (line ∷ []) (with_feed (answer_text_of answer.Accepted)) T → faults ≡ 0
+accepted_number : (line : Bytes) (T : Tables) (faults : ℕ)
+    → LinesReportFaults faults (line ∷ []) (with_feed (answer_text_of answer.Accepted)) T → faults ≡ 0
 accepted_number line T faults (first, more, one, others, fault, (none, no_others), sum, text) =
-    one_number faults one others 0 sum no_others (accepted_is_told first one (one_text (answer_text_of answer.Accepted) first more none text) fault)
+    one_number faults one others 0 sum no_others
+    (accepted_is_told first one (one_text (answer_text_of answer.Accepted) first more none text) fault)
 
 pub refutes_faults : (line : Bytes) (T : Tables) (faults : ℕ) → RefutesFaults line T faults
 refutes_faults line T faults = record {
@@ -66,7 +72,8 @@ one_reported T given line had left faults is it =
     let told = subst (λ (text : Bytes). LinesReportFaults faults (lines_of it.input) text T) (sym text) it.told in
     store_number line T faults (subst (λ (lines : List Bytes). LinesReportFaults faults lines store_line T) lines told)
 
-pub refutes_store_line : (T : Tables) (given line had : Bytes) (left : Option Bytes) (before faults : ℕ) → lines_of given ≡ line ∷ [] → before < last_count
+pub refutes_store_line : (T : Tables) (given line had : Bytes) (left : Option Bytes) (before faults : ℕ) → lines_of given ≡ line ∷ []
+    → before < last_count
     → RefutesStoreLine T given line had left before faults
 refutes_store_line T given line had left before faults is low = record {
   failed = λ failed it. let one = one_reported T given line had left faults is it in elim failed [
@@ -81,9 +88,11 @@ refutes_store_line T given line had left before faults is low = record {
 
 -- ---- a line that is too long
 
-whole_text : (first more text : Bytes) → first ≡ bad_body_text → more ≡ [] → text ≡ (first ++ line_feed ∷ []) ++ more → text ≡ with_feed bad_body_text
+whole_text : (first more text : Bytes) → first ≡ bad_body_text → more ≡ [] → text ≡ (first ++ line_feed ∷ []) ++ more
+    → text ≡ with_feed bad_body_text
 whole_text first more text is none whole =
-    whole ∙ ap (λ (it : Bytes). (first ++ line_feed ∷ []) ++ it) none ∙ append-nil (first ++ line_feed ∷ []) ∙ ap (λ (it : Bytes). it ++ line_feed ∷ []) is
+    whole ∙ ap (λ (it : Bytes). (first ++ line_feed ∷ []) ++ it) none ∙ append-nil (first ++ line_feed ∷ [])
+    ∙ ap (λ (it : Bytes). it ++ line_feed ∷ []) is
 
 module _ {S : Type 0} (rules : Rules S) (line text : Bytes) (long : longest_line < length line) where
   long_text : (s s' : S) → TextAnswersLines rules s (line ∷ []) text s' → text ≡ with_feed bad_body_text
@@ -131,7 +140,8 @@ has_feed (byte ∷ line) none = has_feed line (All-tail (λ byte. byte ≢ line_
 
 no_feed_taken : (line rest : Bytes) → ¬ PartIsTaken (Some (line ++ line_feed ∷ rest)) (Some rest)
 no_feed_taken line rest (part, none, is) =
-    let same : line ++ line_feed ∷ [] ≡ part = append_cancel_right (line ++ line_feed ∷ []) part rest (append_assoc line (line_feed ∷ []) rest ∙ is) in
+    let same : line ++ line_feed ∷ [] ≡ part =
+    append_cancel_right (line ++ line_feed ∷ []) part rest (append_assoc line (line_feed ∷ []) rest ∙ is) in
     has_feed line (subst HasNoFeed (sym same) none)
 
 not_more_left : (given rest : Bytes) → length given < length rest → ¬ PartIsTaken (Some given) (Some rest)
@@ -152,7 +162,8 @@ refutes_numbers = record {
 
 -- ---- closed connections
 
-none_added : (replies : List SentReply) (sent : Option Bytes) (faults : StreamFaults) → ¬ AddsReply (Some replies) (Some replies) sent faults
+none_added : (replies : List SentReply) (sent : Option Bytes) (faults : StreamFaults)
+    → ¬ AddsReply (Some replies) (Some replies) sent faults
 none_added replies sent faults (bytes, is, later) =
     let added : SentReply = record { bytes = bytes; faults = faults } in
     let both : Some replies ≡ Some (replies ++ added ∷ []) = later in
@@ -161,7 +172,8 @@ none_added replies sent faults (bytes, is, later) =
     absurd (omega (arith, size))
 
 -- the reply that was added
-added_is : (replies : List SentReply) (reply added : SentReply) → Some (replies ++ reply ∷ []) ≡ Some (replies ++ added ∷ []) → reply ≡ added
+added_is : (replies : List SentReply) (reply added : SentReply) → Some (replies ++ reply ∷ []) ≡ Some (replies ++ added ∷ [])
+    → reply ≡ added
 added_is replies reply added both =
     let same : replies ++ reply ∷ [] ≡ replies ++ added ∷ [] = cc in
     let last : reply ∷ [] ≡ added ∷ [] = append_cancel_left replies (reply ∷ []) (added ∷ []) same in
@@ -173,7 +185,8 @@ other_added replies sent faults reply differs (bytes, is, later) =
     let reply_is = added_is replies reply (record { bytes = bytes; faults = faults }) later in
     differs (is ∙ ap (λ (it : SentReply). Some it.bytes) (sym reply_is))
 
-miscounted_added : (replies : List SentReply) (sent : Option Bytes) (faults : StreamFaults) (reply : SentReply) → (¬ (faults ≡ reply.faults))
+miscounted_added : (replies : List SentReply) (sent : Option Bytes) (faults : StreamFaults) (reply : SentReply)
+    → (¬ (faults ≡ reply.faults))
     → ¬ AddsReply (Some replies) (Some (replies ++ reply ∷ [])) sent faults
 miscounted_added replies sent faults reply differs (bytes, is, later) =
     let reply_is = added_is replies reply (record { bytes = bytes; faults = faults }) later in

@@ -28,7 +28,8 @@ refutes_bytes T file body known is wrong it =
     let same : it.0 ≡ known = cc in
     wrong (subst (λ (it : FileRecord). IsBodyOf it body) same it.2)
 
-pub refutes_reports : {S K : Type 0} (g : Ghosts S) (out : Outs K) (old new : S) (before after : K) → RefutesReports g out old new before after
+pub refutes_reports : {S K : Type 0} (g : Ghosts S) (out : Outs K) (old new : S) (before after : K)
+    → RefutesReports g out old new before after
 refutes_reports g out old new before after = record {
   write = λ failed it. failed (it.writes refl);
   store = λ failed it. failed it.kept;

@@ -1,5 +1,6 @@
 -- Wrong readings of an input, and wrong pages, do not meet the words of the contracts.
-use Rattle.std.proofs.Common.{◌≡◌, ◌∙◌, ◌+◌, ◌<◌, ◌≤◌, ℕ, Bool, true, false, [], ◌++◌, length, Option, Some, None, Result, Ok, Err, refl, sym, ap, subst, inl, inr, arith, append-nil, length-append, if◌then◌else◌, nat_le, take}
+use Rattle.std.proofs.Common.{◌≡◌, ◌∙◌, ◌+◌, ◌<◌, ◌≤◌, ℕ, Bool, true, false, [], ◌++◌, length, Option, Some, None, Result, Ok, Err, refl}
+use Rattle.std.proofs.Common.{sym, ap, subst, inl, inr, arith, append-nil, length-append, if◌then◌else◌, nat_le, take}
 use Rattle.std.specs.Io.KnownBytes.{Appends}
 use Rattle.std.proofs.lemmas.Bool.Decides.{nat_tests}
 use Rattle.index_io.specs.declared.sink.Sink.{Ghosts as Outs}
@@ -8,7 +9,8 @@ use Rattle.index_desk.specs.Rules.{by_history, by_tables}
 use Rattle.index_desk.specs.Takes.{Takes}
 use Rattle.index_message.specs.Fields.{fields_of}
 use Rattle.index_message.specs.Heads.{HasHead, HasNoHead, longest_head}
-use Rattle.index_message.specs.Messages.{AwaitsBody, EndsUnfinished, IsMessage, IsUnfinished, MayHaveHead, begins_with_head, is_faulty, is_head_name, message_by, message_of, whole_of}
+use Rattle.index_message.specs.Messages.{AwaitsBody, EndsUnfinished, IsMessage, IsUnfinished, MayHaveHead, begins_with_head, is_faulty}
+use Rattle.index_message.specs.Messages.{is_head_name, message_by, message_of, whole_of}
 use Rattle.index_message.specs.Reads.{BytesTakenAtMost}
 use Rattle.index_message.specs.Requests.{HttpRequest}
 use Rattle.index_message.specs.declared.fault.MessageFault.{MessageFault}
@@ -49,14 +51,16 @@ short_is_faulty : (head : _) (front : Bytes) → AwaitsBody head front → is_fa
 short_is_faulty head front (asked, is, less) =
     let short : nat_le asked.length (length front) ≡ false = grind (arith, nat_tests) in
     ap (λ (it : Result Asked MessageFault). is_faulty (message_by head front it)) is
-    ∙ ap (λ (enough : Bool). is_faulty (if enough then whole_of asked (fields_of head) (take asked.length front) else Faulty ShortBody (is_head_name head.method))) short
+    ∙ ap (λ (enough : Bool). is_faulty (if enough then whole_of asked (fields_of head) (take asked.length front)
+    else Faulty ShortBody (is_head_name head.method))) short
 
 -- a whole request is not unfinished
 whole_is_finished : (input : Bytes) (request : HttpRequest) (body : Bytes) → IsMessage input (Whole request body) → ¬ IsUnfinished input
 whole_is_finished input request body (inl none) (inl awaits) = let no : false ≡ true = ap is_faulty none.1 in no_truth (sym no)
 whole_is_finished input request body (inr (head, rest, has, is)) (inl awaits) = awaits.none head rest has.reads
 whole_is_finished input request body whole (inr (head, front, has, awaits)) =
-    let same : Whole request body ≡ message_of head front = at_most_one input (Whole request body) (message_of head front) whole (inr (head, front, has, refl)) in
+    let same : Whole request body ≡ message_of head front =
+    at_most_one input (Whole request body) (message_of head front) whole (inr (head, front, has, refl)) in
     let no : false ≡ true = ap is_faulty same ∙ short_is_faulty head front awaits in
     no_truth (sym no)
 
@@ -72,9 +76,11 @@ no_head_read input none long (inl (taken, all, awaits)) =
     let size : length taken ≡ length input = ap length (all_taken input taken all) in
     let short = awaits.short in
     absurd (omega (arith, long, size, short))
-no_head_read input none long (inr (given, head, rest, is, has, route)) = none head rest (subst (λ (it : Bytes). HasHead it head rest) is has)
+no_head_read input none long (inr (given, head, rest, is, has, route)) =
+    none head rest (subst (λ (it : Bytes). HasHead it head rest) is has)
 
-not_given : (passes : Message → Bool) → ((to_head : Bool) → passes (Faulty BadHead to_head) ≡ false) → (input : Bytes) → HasNoHead input → ¬ GivesMessage passes (Some input)
+not_given : (passes : Message → Bool) → ((to_head : Bool) → passes (Faulty BadHead to_head) ≡ false) → (input : Bytes) → HasNoHead input
+    → ¬ GivesMessage passes (Some input)
 not_given passes fails input none (given, message, is, found, passed) =
     let bad = bad_message input given message none is found in
     no_truth (sym passed ∙ ap passes bad ∙ fails (begins_with_head input))
@@ -94,7 +100,8 @@ refutes_reads input = record {
   most = λ most rest. not_all_taken most input rest;
 }
 
-module _ {S K : Type 0} (g : Ghosts S) (out : Outs K) (old new : S) (before after : K) (honest : g.IsHonest new) (was : g.IsHonest old) (clean : g.IsClean new) where
+module _ {S K : Type 0} (g : Ghosts S) (out : Outs K) (old new : S) (before after : K) (honest : g.IsHonest new) (was : g.IsHonest old)
+    (clean : g.IsClean new) where
   -- these bytes were sent
   abbrev Sent : Bytes → Type 0
   Sent text = Appends (out.contents before) (out.contents after) text
@@ -111,7 +118,8 @@ module _ {S K : Type 0} (g : Ghosts S) (out : Outs K) (old new : S) (before afte
         let is = bad_head_replied by_history at h input none _ ends.0 one.later ends.1 in
         missing (subst Sent is.0 ends.2);
     asks = λ result changed it.
-        let looked = none_asked at input (LeavesTables g old new) (Takes g old new) (out.contents before) (out.contents after) result none it in
+        let looked = none_asked at input (LeavesTables g old new) (Takes g old new) (out.contents before) (out.contents after)
+        result none it in
         changed (looked.unchanged honest);
   }
 

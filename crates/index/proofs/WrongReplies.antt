@@ -1,5 +1,6 @@
 -- Wrong replies to messages, to lines and on connections do not meet the words of the contracts.
-use Rattle.std.proofs.Common.{◌≡◌, ◌∙◌, ◌<◌, ℕ, suc, Bool, true, false, List, [], ◌++◌, length, take, drop, Option, Some, None, Result, Ok, Err, refl, sym, ap, subst, inl, inr, arith, le_refl, length-take-le, take_all, take-append-drop, append-nil}
+use Rattle.std.proofs.Common.{◌≡◌, ◌∙◌, ◌<◌, ℕ, suc, Bool, true, false, List, [], ◌++◌, length, take, drop, Option, Some, None, Result, Ok}
+use Rattle.std.proofs.Common.{Err, refl, sym, ap, subst, inl, inr, arith, le_refl, length-take-le, take_all, take-append-drop, append-nil}
 use Rattle.std.specs.Io.KnownBytes.{Appends, Keeps}
 use Rattle.std.proofs.lemmas.List.{append_cancel_left}
 use Rattle.index_io.specs.Counts.{HasFailed}
@@ -17,7 +18,8 @@ use Rattle.index_message.specs.declared.message.Message.{Message}
 use Rattle.index_message.specs.declared.message.Message.TheVariants.{Faulty, Whole}
 use Rattle.index_http.specs.Asks.{Asks, AsksFor, MessageIsAnswered, call_in, text_of_answer}
 use Rattle.index_http.specs.Ends.{IsFaultReply, LastsOrFails, ReplyEnds, SentBytesShowFailure}
-use Rattle.index_http.specs.Exchanges.{Acts, HasRequest, InputGetsText, IsFaultless, MessageGetsText, RequestGetsReply, RequestGetsText, ShowsFile, ShowsResource, body_reply}
+use Rattle.index_http.specs.Exchanges.{Acts, HasRequest, InputGetsText, IsFaultless, MessageGetsText, RequestGetsReply, RequestGetsText}
+use Rattle.index_http.specs.Exchanges.{ShowsFile, ShowsResource, body_reply}
 use Rattle.index_http.specs.Replies.{reply_head, reply_text}
 use Rattle.index_http.specs.Sends.{SendsFirstBytes, SendsLessThanText}
 use Rattle.index_http.specs.Steps.{at_desk, to_sink}
@@ -36,7 +38,8 @@ use Rattle.index_rules.specs.History.{History}
 use Rattle.index_rules.specs.Maps.{Bytes}
 use Rattle.index_rules.specs.StandsFor.{StandsFor}
 use Rattle.index_rules.specs.Tables.{Tables}
-use Rattle.index.specs.RefutedReplies.{RefutesAsks, RefutesHeadless, RefutesHeads, RefutesLineFaults, RefutesLineReplies, RefutesMessages, RefutesNext, RefutesReplies, RefutesShows, bad_head_text}
+use Rattle.index.specs.RefutedReplies.{RefutesAsks, RefutesHeadless, RefutesHeads, RefutesLineFaults, RefutesLineReplies, RefutesMessages}
+use Rattle.index.specs.RefutedReplies.{RefutesNext, RefutesReplies, RefutesShows, bad_head_text}
 use Rattle.index.proofs.WrongHeads.{no_fault_reply, same_status}
 use Rattle.index.proofs.WrongTexts.{store_is_told}
 use Rattle.index.proofs.WrongLooks.{refutes_bytes, refutes_looks, refutes_reports}
@@ -111,7 +114,8 @@ nothing_sent text (Some had) None kept = absurd kept
 nothing_sent text (Some had) (Some has) kept = kept ∙ sym (append-nil had)
 
 -- what was sent behind known bytes is what was to be sent
-same_sent : (old new : Option Bytes) (had sent text : Bytes) → old ≡ Some had → new ≡ Some (had ++ sent) → Appends old new text → sent ≡ text
+same_sent : (old new : Option Bytes) (had sent text : Bytes) → old ≡ Some had → new ≡ Some (had ++ sent) → Appends old new text
+    → sent ≡ text
 same_sent old new had sent text is is' sends =
     let known : Appends (Some had) new text = subst (λ it. Appends it new text) is sends in
     let both : had ++ sent ≡ had ++ text = subst (λ it. Appends (Some had) it text) is' known in
@@ -123,19 +127,22 @@ refutes_heads out before after = record {
   size = λ head text count wrong it. wrong it.whole.0;
   status = λ had fields lines status other size more count low below differs is is' it.
       differs (same_status status other fields lines size more low below
-      (same_sent (out.contents before) (out.contents after) had (reply_head other lines more) (reply_head status fields size) is is' it.whole.1));
+      (same_sent (out.contents before) (out.contents after) had (reply_head other lines more) (reply_head status fields size)
+      is is' it.whole.1));
 }
 
 -- ---- an input without a head
 
 -- it is one message
-pub bad_message : (input front : Bytes) (message : Message) → HasNoHead input → front ≡ input → IsMessage front message → message ≡ Faulty BadHead (begins_with_head input)
+pub bad_message : (input front : Bytes) (message : Message) → HasNoHead input → front ≡ input → IsMessage front message
+    → message ≡ Faulty BadHead (begins_with_head input)
 bad_message input front message none same (inl bad) = bad.1 ∙ ap (λ (it : Bytes). Faulty BadHead (begins_with_head it)) same
 bad_message input front message none same (inr it) = absurd (none it.0 it.1 (subst (λ (front : Bytes). HasHead front it.0 it.1) same it.2))
 
 module _ {S : Type 0} (rules : Rules S) (at : ℕ) (s : S) (input : Bytes) (none : HasNoHead input) where
   -- its reply, which leaves the state
-  pub bad_head_replied : (Cause : Type 0) (text : Bytes) (s' : S) → InputGetsText rules Cause at s (Some input) text s' → (text ≡ bad_head_text input) × (s' ≡ s)
+  pub bad_head_replied : (Cause : Type 0) (text : Bytes) (s' : S) → InputGetsText rules Cause at s (Some input) text s'
+      → (text ≡ bad_head_text input) × (s' ≡ s)
   bad_head_replied Cause text s' it =
       let is = bad_message input it.0 it.1 none it.2 it.3 in
       subst (λ (message : Message). MessageGetsText rules Cause at s message text s') is it.4
@@ -189,21 +196,26 @@ no_request input none asked =
     cc is
 
 -- no failure is shown, also if a call of the store failed
-no_failure_shown : {S K : Type 0} (g : Ghosts S) (out : Outs K) (old new : S) (before after : K) → g.IsClean new → (at : ℕ) (input : Bytes) → HasNoHead input → g.IsHonest old
+no_failure_shown : {S K : Type 0} (g : Ghosts S) (out : Outs K) (old new : S) (before after : K) → g.IsClean new → (at : ℕ) (input : Bytes)
+    → HasNoHead input → g.IsHonest old
     → (¬ (g.failures new ≡ g.failures old)) → ¬ LastsOrFails at (Some input) (at_desk g old new) (to_sink out before after)
 no_failure_shown g out old new before after clean at input none was failed it = elim (it was clean) [
   | inl stays ↦ failed stays.1
   | inr shows ↦ no_request input none shows.0
 ]
 
-refutes_headless : (at : ℕ) (input : Bytes) (had has : Option Bytes) (faults : StreamFaults) → HasNoHead input → RefutesHeadless at input had has faults
+refutes_headless : (at : ℕ) (input : Bytes) (had has : Option Bytes) (faults : StreamFaults) → HasNoHead input
+    → RefutesHeadless at input had has faults
 refutes_headless at input had has faults none = record {
   text = λ before after h T' wrong it.
       let ends = it.is in
-      wrong (subst (λ (it : Bytes). Appends had has it) (bad_head_replied by_history at h input none (HasFailed before after) ends.0 it.later ends.1).0 ends.2);
+      wrong (subst (λ (it : Bytes). Appends had has it)
+      (bad_head_replied by_history at h input none (HasFailed before after) ends.0 it.later ends.1).0 ends.2);
   stands = λ before after h result T' other it.
-      other (subst (λ (it : History). StandsFor T' it) (unchanged by_history at h input none (HasFailed before after) it.later had has result it.is) it.shows.1);
-  tables = λ T T' changed it. changed (unchanged by_tables at T input none (HasFailed it.failures it.later_failures) T' had has it.ended it.ends);
+      other (subst (λ (it : History). StandsFor T' it)
+      (unchanged by_history at h input none (HasFailed before after) it.later had has result it.is) it.shows.1);
+  tables = λ T T' changed it. changed (unchanged by_tables at T input none (HasFailed it.failures it.later_failures)
+      T' had has it.ended it.ends);
   front = λ T T' wrong it.
       let front = front_sent by_tables at T input none (HasFailed it.failures it.later_failures) T' had has it.ended it.ends in
       wrong front.0 front.1;
@@ -216,19 +228,22 @@ refutes_headless at input had has faults none = record {
 }
 
 -- it asks for no call
-pub none_asked : (at : ℕ) (input : Bytes) (Looked : Type 0) (Took : Call → Answer → Type 0) (had has : Option Bytes) (ended : Result (Unit {0}) IoEnd)
+pub none_asked : (at : ℕ) (input : Bytes) (Looked : Type 0) (Took : Call → Answer
+    → Type 0) (had has : Option Bytes) (ended : Result (Unit {0}) IoEnd)
     → HasNoHead input → Asks at (Some input) Looked Took had has ended → Looked
 none_asked at input Looked Took had has ended none (inl early) = early.0
 none_asked at input Looked Took had has ended none (inr it) =
     subst (λ (message : Message). AsksFor (call_in at message) (text_of_answer message) Looked Took had has ended)
     (bad_message input it.0 it.1 none it.2 it.3) it.4
 
-refutes_asks : {S : Type 0} (g : Ghosts S) (old new : S) → g.IsHonest new → HasOneBearer (g.tables old) → (at : ℕ) (input : Bytes) (had has : Option Bytes) (faults : StreamFaults)
+refutes_asks : {S : Type 0} (g : Ghosts S) (old new : S) → g.IsHonest new → HasOneBearer (g.tables old)
+    → (at : ℕ) (input : Bytes) (had has : Option Bytes) (faults : StreamFaults)
     → HasNoHead input → (¬ (g.tables new ≡ g.tables old)) → RefutesAsks g old new at input had has faults
 refutes_asks g old new honest one at input had has faults none changed = record {
   message = λ it.
       let one = it.tables honest one in
-      changed (unchanged by_tables at (g.tables old) input none (HasFailed one.failures one.later_failures) (g.tables new) had has one.ended one.ends);
+      changed (unchanged by_tables at (g.tables old) input none (HasFailed one.failures one.later_failures) (g.tables new)
+      had has one.ended one.ends);
   asks = λ it.
       let looked = none_asked at input (LeavesTables g old new) (Takes g old new) had has it.ended none it.asks in
       changed (looked.unchanged honest);
@@ -253,7 +268,8 @@ refutes_lines : {S : Type 0} (g : Ghosts S) (old new : S) → g.IsHonest new →
 refutes_lines g old new honest one = record {
   long = λ reply given long wrong it. wrong ((it.reply honest one given refl refl).1 long).0;
   call = λ reply given call short is wrong it.
-      let asked = subst (λ (it : Option Line). TextAnswersParsedLine by_tables it (g.tables old) (line_reply_text reply) (g.tables new)) is ((it.reply honest one given refl refl).0 short) in
+      let asked = subst (λ (it : Option Line). TextAnswersParsedLine by_tables it (g.tables old) (line_reply_text reply) (g.tables new)) is
+      ((it.reply honest one given refl refl).0 short) in
       wrong asked.0 asked.2 asked.1;
   bad_name = λ reply wrong it. wrong (it.reply honest);
   standing = λ reply name wrong no it. elim (it.reply honest) [

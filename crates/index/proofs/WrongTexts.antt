@@ -25,7 +25,8 @@ in_kind text = first_of (drop 11 text)
 abbrev in_name : List ℕ → ℕ
 in_name text = first_of (drop 26 text)
 
-in_store : (in_member (answer_text_of (answer.Fault Store)) ≡ 97) × (in_kind (answer_text_of (answer.Fault Store)) ≡ 102) × (in_name (answer_text_of (answer.Fault Store)) ≡ 83)
+in_store : (in_member (answer_text_of (answer.Fault Store)) ≡ 97) × (in_kind (answer_text_of (answer.Fault Store)) ≡ 102)
+    × (in_name (answer_text_of (answer.Fault Store)) ≡ 83)
 unfolding answers_on_literals
 in_store = (refl, refl, refl)
 

@@ -1,5 +1,6 @@
 -- The bytes that a change spares are in the tables after it.
-use Rattle.std.proofs.Common.{◌≡◌, ◌≤◌, Bool, true, false, true≢false, cond, not, refl, sym, ap, ◌∙◌, List, Some, None, filter, length, arith}
+use Rattle.std.proofs.Common.{◌≡◌, ◌≤◌, Bool, true, false, true≢false, cond, not, refl, sym, ap, ◌∙◌, List, Some, None, filter, length}
+use Rattle.std.proofs.Common.{arith}
 use Rattle.std.specs.FinMap.{get}
 use Rattle.std.specs.List.{All}
 use Rattle.std.proofs.lemmas.List.Elements.{All-filter, filter_passes}
@@ -25,7 +26,8 @@ spared (change.SetQuota _ _) file T h = refl
 spared (change.Claim _ _ _) file T h = refl
 spared (change.AddOwner _ _) file T h = refl
 spared (change.RemoveOwner _ _) file T h = refl
-spared (change.Upload _ _ changed _ body _) file T h = get-put T.bodies changed body file ∙ ap (λ b. cond b (Some body) (get T.bodies file)) (other _ h)
+spared (change.Upload _ _ changed _ body _) file T h =
+    get-put T.bodies changed body file ∙ ap (λ b. cond b (Some body) (get T.bodies file)) (other _ h)
 spared (change.Delete _ _ changed _) file T h = get-without T.bodies changed file ∙ ap (λ b. cond b None (get T.bodies file)) (other _ h)
 spared (change.BanFile _ _ changed _) file T h = get-without T.bodies changed file ∙ ap (λ b. cond b None (get T.bodies file)) (other _ h)
 spared (change.Yank _ _ _) file T h = refl
@@ -40,10 +42,12 @@ spared (change.CloseCase _) file T h = refl
 spared (change.AnswerCase _) file T h = refl
 
 -- what is kept of the bodies that a change spares
-pub still_cached : (c : Change) (T : Tables) (bodies : List CachedBody) → All (IsCachedBody T) bodies → All (IsCachedBody T) (filter (spares_body c) bodies)
+pub still_cached : (c : Change) (T : Tables) (bodies : List CachedBody) → All (IsCachedBody T) bodies
+    → All (IsCachedBody T) (filter (spares_body c) bodies)
 still_cached c T bodies kept = All-filter (spares_body c) (IsCachedBody T) bodies kept
 
-pub cached_after : (c : Change) (T : Tables) (bodies : List CachedBody) → All (IsCachedBody T) (filter (spares_body c) bodies) → All (IsCachedBody (means c T)) (filter (spares_body c) bodies)
+pub cached_after : (c : Change) (T : Tables) (bodies : List CachedBody) → All (IsCachedBody T) (filter (spares_body c) bodies)
+    → All (IsCachedBody (means c T)) (filter (spares_body c) bodies)
 cached_after c T bodies kept k d lt = spared c _ T (filter_passes (spares_body c) bodies k d lt) ∙ kept k d lt
 
 -- the bodies that a change spares are no more than all, and have no more bytes
@@ -51,4 +55,8 @@ pub spared_length : (c : Change) (bodies : List CachedBody) → length (filter (
 spared_length c bodies = omega (arith, length-filter_both (spares_body c) (λ kept. not (spares_body c kept)) (λ _. refl) bodies)
 
 pub spared_bytes : (c : Change) (bodies : List CachedBody) → body_bytes (filter (spares_body c) bodies) ≤ body_bytes bodies
-spared_bytes c bodies = omega (arith, sum_by-filter_both (spares_body c) (λ kept. not (spares_body c kept)) (λ _. refl) (λ kept. length kept.body) bodies)
+spared_bytes c bodies = omega (
+  arith,
+  sum_by-filter_both (spares_body c) (λ kept. not (spares_body c kept)) (λ _. refl)
+      (λ kept. length kept.body) bodies,
+)

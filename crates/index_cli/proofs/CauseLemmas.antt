@@ -1,5 +1,6 @@
 -- Each fault of the store that is told has a call that failed.
-use Rattle.std.proofs.Common.{◌≡◌, ◌∙◌, ◌+◌, ℕ, true, inl, inr, refl, sym, ap, List, [], ◌∷◌, ◌++◌, length, Option, append_assoc, append-nil, arith}
+use Rattle.std.proofs.Common.{◌≡◌, ◌∙◌, ◌+◌, ℕ, true, inl, inr, refl, sym, ap, List, [], ◌∷◌, ◌++◌, length, Option, append_assoc}
+use Rattle.std.proofs.Common.{append-nil, arith}
 use Rattle.std.proofs.lemmas.Bool.{cases_lt}
 use Rattle.index_io.specs.Counts.{FailsAtMostOnce, HasFailed, last_count}
 use Rattle.index_rules.specs.declared.answer.Answer.{Answer}
@@ -13,7 +14,8 @@ use Rattle.index_desk.specs.Looks.{NeverFalls}
 use Rattle.index_json.proofs.OnLiterals.{answers_on_literals}
 use Rattle.index_json.specs.AnswerText.{answer_text_of}
 use Rattle.index_json.specs.StandingText.{standing_text_of}
-use Rattle.index_cli.specs.Causes.{HasCauses, HaveCounted, HaveFailed, LinesReportFaults, OutputReportsFaults, ReplyCountsStoreFault, ReplyReportsFaults, store_faults}
+use Rattle.index_cli.specs.Causes.{HasCauses, HaveCounted, HaveFailed, LinesReportFaults, OutputReportsFaults, ReplyCountsStoreFault}
+use Rattle.index_cli.specs.Causes.{ReplyReportsFaults, store_faults}
 use Rattle.index_cli.specs.Ends.{LinesBeforeAreAnswered}
 use Rattle.index_cli.specs.Lines.{line_feed}
 use Rattle.index_cli.proofs.Progress.{Pushes}
@@ -34,7 +36,8 @@ one_failed f0 f1 (inl more) = inl (omega (arith, more))
 one_failed f0 f1 (inr last) = inr (omega (arith, last))
 
 -- an answer is as many faults of the store as calls failed
-pub answer_failed : (a : Answer) (f0 f1 : ℕ) → FailsAtMostOnce f0 f1 → (a ≡ answer.Fault Store → HasFailed f0 f1) → HaveFailed (store_faults a) f0 f1
+pub answer_failed : (a : Answer) (f0 f1 : ℕ) → FailsAtMostOnce f0 f1 → (a ≡ answer.Fault Store → HasFailed f0 f1)
+    → HaveFailed (store_faults a) f0 f1
 answer_failed (answer.Fault Store) f0 f1 once store = one_failed f0 f1 (store refl)
 answer_failed (answer.Fault OutOfMemory) f0 f1 once store = none_failed f0 f1 once
 answer_failed (answer.Refused refusal) f0 f1 once store = none_failed f0 f1 once
@@ -63,12 +66,14 @@ failed_since f0 f1 f2 earlier (inr last) = inr last
 -- ---- texts
 
 -- the text of an answer
-pub answer_causes : (a : Answer) (text : List ℕ) (f0 f1 : ℕ) → text ≡ answer_text_of a → FailsAtMostOnce f0 f1 → (a ≡ answer.Fault Store → HasFailed f0 f1) → HasCauses text f0 f1
+pub answer_causes : (a : Answer) (text : List ℕ) (f0 f1 : ℕ) → text ≡ answer_text_of a → FailsAtMostOnce f0 f1
+    → (a ≡ answer.Fault Store → HasFailed f0 f1) → HasCauses text f0 f1
 answer_causes a text f0 f1 is once store = (store_faults a, inl (a, is, refl), answer_failed a f0 f1 once store)
 
 -- lines and one more
 OutputReportsFaults-push : (n m : ℕ) (done : List (List ℕ)) (text line first : List ℕ)
-    → OutputReportsFaults n done text → ReplyReportsFaults first m → OutputReportsFaults (n + m) (done ++ line ∷ []) (text ++ (first ++ line_feed ∷ []))
+    → OutputReportsFaults n done text → ReplyReportsFaults first m
+    → OutputReportsFaults (n + m) (done ++ line ∷ []) (text ++ (first ++ line_feed ∷ []))
 OutputReportsFaults-push n m [] text line first told tells = (
   first,
   [],
@@ -95,16 +100,19 @@ pub faults_push : (n m size : ℕ) (T U : Tables) (kept first : List ℕ) → Re
 faults_push n m size T U kept first tells done text line sized front told = OutputReportsFaults-push n m done text line first told tells
 
 -- lines before the one in hand, whatever the tables
-pub faults_before : (n : ℕ) (T U : Tables) (a b w0 w1 : Option (List ℕ)) → LinesBeforeAreAnswered (LinesReportFaults n) T a b w0 w1 → LinesBeforeAreAnswered (LinesReportFaults n) U a b w0 w1
+pub faults_before : (n : ℕ) (T U : Tables) (a b w0 w1 : Option (List ℕ)) → LinesBeforeAreAnswered (LinesReportFaults n) T a b w0 w1
+    → LinesBeforeAreAnswered (LinesReportFaults n) U a b w0 w1
 faults_before n T U a b w0 w1 before = before_map (LinesReportFaults n) (LinesReportFaults n) T U (λ lines text told. told) a b w0 w1 before
 
 -- the text of a fault
-pub fault_causes : (fault : Fault) (text : List ℕ) (f0 f1 : ℕ) → text ≡ answer_text_of (answer.Fault fault) → FailsAtMostOnce f0 f1 → (fault ≡ Store → HasFailed f0 f1) → HasCauses text f0 f1
+pub fault_causes : (fault : Fault) (text : List ℕ) (f0 f1 : ℕ) → text ≡ answer_text_of (answer.Fault fault) → FailsAtMostOnce f0 f1
+    → (fault ≡ Store → HasFailed f0 f1) → HasCauses text f0 f1
 fault_causes Store text f0 f1 is once store = (1, inl (answer.Fault Store, is, refl), one_failed f0 f1 (store refl))
 fault_causes OutOfMemory text f0 f1 is once store = (0, inl (answer.Fault OutOfMemory, is, refl), none_failed f0 f1 once)
 
 -- the text of a standing
-pub standing_causes : (standing : Standing) (text : List ℕ) (f0 f1 : ℕ) → text ≡ standing_text_of standing → FailsAtMostOnce f0 f1 → HasCauses text f0 f1
+pub standing_causes : (standing : Standing) (text : List ℕ) (f0 f1 : ℕ) → text ≡ standing_text_of standing → FailsAtMostOnce f0 f1
+    → HasCauses text f0 f1
 standing_causes standing text f0 f1 is once = (0, inr (inl (standing, is, refl)), none_failed f0 f1 once)
 
 -- ---- the count of the store's faults
@@ -122,7 +130,8 @@ store_or_memory : answer_text_of (answer.Fault Store) ≡ answer_text_of (answer
 store_or_memory same = absurd (omega (arith, ap length same, store_size, memory_size))
 
 -- the text of an answer
-pub answer_counted : (a : Answer) (text : List ℕ) (f0 f1 : ℕ) → text ≡ answer_text_of a → CountsStoreFault f0 f1 (answers_store_fault a) → ReplyCountsStoreFault text f0 f1
+pub answer_counted : (a : Answer) (text : List ℕ) (f0 f1 : ℕ) → text ≡ answer_text_of a → CountsStoreFault f0 f1 (answers_store_fault a)
+    → ReplyCountsStoreFault text f0 f1
 answer_counted (answer.Fault Store) text f0 f1 is counts = inl (is, counts)
 answer_counted (answer.Fault OutOfMemory) text f0 f1 is counts = inr (inl (answer.Fault OutOfMemory, is, refl), counts)
 answer_counted (answer.Refused refusal) text f0 f1 is counts = inr (inl (answer.Refused refusal, is, refl), counts)
@@ -130,7 +139,8 @@ answer_counted answer.Already text f0 f1 is counts = inr (inl (answer.Already, i
 answer_counted answer.Accepted text f0 f1 is counts = inr (inl (answer.Accepted, is, refl), counts)
 
 -- if the text is that of `OutOfMemory`, no fault of the store was counted
-pub counted_memory : (text : List ℕ) (f0 f1 : ℕ) → ReplyCountsStoreFault text f0 f1 → text ≡ answer_text_of (answer.Fault OutOfMemory) → f1 ≡ f0
+pub counted_memory : (text : List ℕ) (f0 f1 : ℕ) → ReplyCountsStoreFault text f0 f1 → text ≡ answer_text_of (answer.Fault OutOfMemory)
+    → f1 ≡ f0
 counted_memory text f0 f1 (inl (store, counts)) memory = absurd (store_or_memory (sym store ∙ memory))
 counted_memory text f0 f1 (inr (none, kept)) memory = kept
 

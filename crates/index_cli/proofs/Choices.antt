@@ -21,61 +21,123 @@ use Rattle.index_cli.specs.ServesFront.{LeavingTables, ServesFirst}
 use Rattle.index_cli.specs.Serving.{AsksEach, AsksOne}
 use Rattle.index_cli.specs.LineCalls.{AsksLine, AsksOf, LineCallsLeave}
 
-pub LinesEnd-choice : (A : Type 0) (tells : Telling) (by_choice : A → Telling) (T : Tables) → ((lines : List (List ℕ)) (text : List ℕ) → tells lines text T → (a : A) × by_choice a lines text T)
-    → (given left had has : Option (List ℕ)) (ended : Result ℕ LineEnd) → LinesEnd tells T given left had has ended → (a : A) × LinesEnd (by_choice a) T given left had has ended
+pub LinesEnd-choice : (A : Type 0) (tells : Telling) (by_choice : A → Telling) (T : Tables)
+    → ((lines : List (List ℕ)) (text : List ℕ) → tells lines text T → (a : A) × by_choice a lines text T)
+    → (given left had has : Option (List ℕ)) (ended : Result ℕ LineEnd) → LinesEnd tells T given left had has ended
+    → (a : A) × LinesEnd (by_choice a) T given left had has ended
 LinesEnd-choice A tells by_choice T choose given left had has (Ok count) it =
-    let chosen = choose _ _ it.told in
-    (chosen.0, record { input = it.input; text = it.text; is_input = it.is_input; taken = it.taken; at_end = it.at_end; told = chosen.1; wrote = it.wrote; counted = it.counted })
+    let chosen = choose _ _ it.told in (
+      chosen.0,
+      record {
+        input = it.input;
+        text = it.text;
+        is_input = it.is_input;
+        taken = it.taken;
+        at_end = it.at_end;
+        told = chosen.1;
+        wrote = it.wrote;
+        counted = it.counted;
+      },
+    )
 LinesEnd-choice A tells by_choice T choose given left had has (Err ReadFault) it =
-    let chosen = choose _ _ it.told in
-    (chosen.0, record { input = it.input; done = it.done; more = it.more; text = it.text; is_input = it.is_input; lines = it.lines; taken = it.taken; told = chosen.1; wrote = it.wrote })
+    let chosen = choose _ _ it.told in (
+      chosen.0,
+      record {
+        input = it.input;
+        done = it.done;
+        more = it.more;
+        text = it.text;
+        is_input = it.is_input;
+        lines = it.lines;
+        taken = it.taken;
+        told = chosen.1;
+        wrote = it.wrote;
+      },
+    )
 LinesEnd-choice A tells by_choice T choose given left had has (Err WriteFault) it =
-    let chosen = choose _ _ it.told in
-    (chosen.0, record { input = it.input; done = it.done; line = it.line; more = it.more; text = it.text; count = it.count; is_input = it.is_input; lines = it.lines; taken = it.taken; told = chosen.1; less = it.less; wrote = it.wrote })
+    let chosen = choose _ _ it.told in (
+      chosen.0,
+      record {
+        input = it.input;
+        done = it.done;
+        line = it.line;
+        more = it.more;
+        text = it.text;
+        count = it.count;
+        is_input = it.is_input;
+        lines = it.lines;
+        taken = it.taken;
+        told = chosen.1;
+        less = it.less;
+        wrote = it.wrote;
+      },
+    )
 LinesEnd-choice A tells by_choice T choose given left had has (Err OutOfMemory) it =
-    let chosen = choose _ _ it.told in
-    (chosen.0, record { input = it.input; done = it.done; more = it.more; text = it.text; is_input = it.is_input; lines = it.lines; taken = it.taken; told = chosen.1; wrote = it.wrote })
+    let chosen = choose _ _ it.told in (
+      chosen.0,
+      record {
+        input = it.input;
+        done = it.done;
+        more = it.more;
+        text = it.text;
+        is_input = it.is_input;
+        lines = it.lines;
+        taken = it.taken;
+        told = chosen.1;
+        wrote = it.wrote;
+      },
+    )
 
 -- a message that asks for a look or takes a call: each of the two gives a value
 module _ (A Looked : Type 0) (LookedBy : A → Type 0) (Took : Call → Answer → Type 0) (TookBy : A → Call → Answer → Type 0)
-    (of_look : Looked → (a : A) × LookedBy a) (of_call : (call : Call) (answer : Answer) → Took call answer → (a : A) × TookBy a call answer) where
-  AsksOf-choice : (asked : Option Line) (text : List ℕ) → AsksOf asked text Looked Took → (a : A) × AsksOf asked text (LookedBy a) (TookBy a)
+    (of_look : Looked → (a : A) × LookedBy a) (of_call : (call : Call) (answer : Answer) → Took call answer
+    → (a : A) × TookBy a call answer) where
+  AsksOf-choice : (asked : Option Line) (text : List ℕ) → AsksOf asked text Looked Took
+      → (a : A) × AsksOf asked text (LookedBy a) (TookBy a)
   AsksOf-choice None text it = of_look it
   AsksOf-choice (Some (line.Call call)) text it = let chosen = of_call call it.0 it.2 in (chosen.0, (it.0, it.1, chosen.1))
   AsksOf-choice (Some (line.Standing name)) text it = of_look it
 
   pub AsksLine-choice : (asked text : List ℕ) → AsksLine asked text Looked Took → (a : A) × AsksLine asked text (LookedBy a) (TookBy a)
   AsksLine-choice asked text it = elim (cases_lt longest_line (length asked)) [
-    | inr short ↦ let chosen = AsksOf-choice (line_of asked) text (it.0 short) in (chosen.0, (λ _. chosen.1, λ long. absurd (omega (arith, short, long))))
+    | inr short ↦ let chosen = AsksOf-choice (line_of asked) text (it.0 short) in
+        (chosen.0, (λ _. chosen.1, λ long. absurd (omega (arith, short, long))))
     | inl long ↦ let chosen = of_look (it.1 long) in (chosen.0, (λ short. absurd (omega (arith, short, long)), λ _. chosen.1))
   ]
 
   AsksFor-choice : (before after : Option Bytes) (result : Result (Unit {0}) IoEnd) (call : Option Call) (text_of : Answer → Bytes)
       → AsksFor call text_of Looked Took before after result → (a : A) × AsksFor call text_of (LookedBy a) (TookBy a) before after result
   AsksFor-choice before after result None text_of it = of_look it
-  AsksFor-choice before after (Ok done) (Some call) text_of it = let chosen = of_call call it.1.0 it.1.2 in (chosen.0, (it.0, (it.1.0, it.1.1, chosen.1), it.2))
-  AsksFor-choice before after (Err (io_end.WriteFault count)) (Some call) text_of it = let chosen = of_call call it.1.0 it.1.2 in (chosen.0, (it.0, (it.1.0, it.1.1, chosen.1), it.2))
-  AsksFor-choice before after (Err (io_end.Cut count)) (Some call) text_of it = let chosen = of_call call it.1.0 it.1.2 in (chosen.0, (it.0, (it.1.0, it.1.1, chosen.1), it.2))
+  AsksFor-choice before after (Ok done) (Some call) text_of it = let chosen = of_call call it.1.0 it.1.2 in
+      (chosen.0, (it.0, (it.1.0, it.1.1, chosen.1), it.2))
+  AsksFor-choice before after (Err (io_end.WriteFault count)) (Some call) text_of it = let chosen = of_call call it.1.0 it.1.2 in
+      (chosen.0, (it.0, (it.1.0, it.1.1, chosen.1), it.2))
+  AsksFor-choice before after (Err (io_end.Cut count)) (Some call) text_of it = let chosen = of_call call it.1.0 it.1.2 in
+      (chosen.0, (it.0, (it.1.0, it.1.1, chosen.1), it.2))
   AsksFor-choice before after (Err io_end.ReadFault) (Some call) text_of it = let chosen = of_look it.0 in (chosen.0, (chosen.1, it.1))
   AsksFor-choice before after (Err io_end.OutOfMemory) (Some call) text_of it = let chosen = of_look it.0 in (chosen.0, (chosen.1, it.1))
 
   Asks-choice : (before after : Option Bytes) (result : Result (Unit {0}) IoEnd) (at : ℕ) (given : Option Bytes)
       → Asks at given Looked Took before after result → (a : A) × Asks at given (LookedBy a) (TookBy a) before after result
   Asks-choice before after result at given (inl it) = let chosen = of_look it.0 in (chosen.0, inl (chosen.1, it.1, it.2))
-  Asks-choice before after result at given (inr it) = let chosen = AsksFor-choice before after result _ _ it.4 in (chosen.0, inr (it.0, it.1, it.2, it.3, chosen.1))
+  Asks-choice before after result at given (inr it) = let chosen = AsksFor-choice before after result _ _ it.4 in
+      (chosen.0, inr (it.0, it.1, it.2, it.3, chosen.1))
 
   pub AsksOne-choice : (exchange : Exchange) → AsksOne exchange Looked Took → (a : A) × AsksOne exchange (LookedBy a) (TookBy a)
   AsksOne-choice exchange it = let chosen = Asks-choice exchange.had exchange.has it.ended exchange.at exchange.given it.asks in
       (chosen.0, record { ended = it.ended; asks = chosen.1; cause = it.cause })
 
-pub LineCallsLeave-choice : (A : Type 0) (T : Tables) (Left : List Call → List Answer → Tables → Type 0) (LeftBy : A → List Call → List Answer → Tables → Type 0)
+pub LineCallsLeave-choice : (A : Type 0) (T : Tables) (Left : List Call → List Answer → Tables → Type 0) (LeftBy : A → List Call
+    → List Answer → Tables → Type 0)
     → ((calls : List Call) (answers : List Answer) → Left calls answers T → (a : A) × LeftBy a calls answers T)
     → (lines : List (List ℕ)) (text : List ℕ) → LineCallsLeave Left lines text T → (a : A) × LineCallsLeave (LeftBy a) lines text T
 LineCallsLeave-choice A T Left LeftBy choose [] text it = let chosen = choose [] [] it.1 in (chosen.0, (it.0, chosen.1))
 LineCallsLeave-choice A T Left LeftBy choose (asked ∷ lines) text it =
-    let chosen = AsksLine-choice A _ (λ a. LineCallsLeave (LeftBy a) lines it.1 T) _ (λ a call answer. LineCallsLeave (λ calls answers. LeftBy a (call ∷ calls) (answer ∷ answers)) lines it.1 T)
+    let chosen = AsksLine-choice A _ (λ a. LineCallsLeave (LeftBy a) lines it.1 T) _
+    (λ a call answer. LineCallsLeave (λ calls answers. LeftBy a (call ∷ calls) (answer ∷ answers)) lines it.1 T)
     (LineCallsLeave-choice A T Left LeftBy choose lines it.1)
-    (λ call answer. LineCallsLeave-choice A T (λ calls answers. Left (call ∷ calls) (answer ∷ answers)) (λ a calls answers. LeftBy a (call ∷ calls) (answer ∷ answers))
+    (λ call answer. LineCallsLeave-choice A T (λ calls answers. Left (call ∷ calls) (answer ∷ answers))
+    (λ a calls answers. LeftBy a (call ∷ calls) (answer ∷ answers))
     (λ calls answers. choose (call ∷ calls) (answer ∷ answers)) lines it.1)
     asked it.0 it.3 in
     (chosen.0, (it.0, it.1, it.2, chosen.1))
@@ -85,16 +147,28 @@ AsksEach-choice : (A : Type 0) (Left : List Call → List Answer → Type 0) (Le
     → (exchanges : List Exchange) → AsksEach exchanges Left → (a : A) × AsksEach exchanges (LeftBy a)
 AsksEach-choice A Left LeftBy choose [] it = choose [] [] it
 AsksEach-choice A Left LeftBy choose (exchange ∷ earlier) it =
-    AsksEach-choice A (λ calls answers. AsksOne exchange (Left calls answers) (λ call answer. Left (calls ++ call ∷ []) (answers ++ answer ∷ [])))
+    AsksEach-choice A (λ calls answers. AsksOne exchange (Left calls answers)
+    (λ call answer. Left (calls ++ call ∷ []) (answers ++ answer ∷ [])))
     (λ a calls answers. AsksOne exchange (LeftBy a calls answers) (λ call answer. LeftBy a (calls ++ call ∷ []) (answers ++ answer ∷ [])))
-    (λ calls answers. AsksOne-choice A _ (λ a. LeftBy a calls answers) _ (λ a call answer. LeftBy a (calls ++ call ∷ []) (answers ++ answer ∷ []))
+    (λ calls answers. AsksOne-choice A _ (λ a. LeftBy a calls answers) _
+    (λ a call answer. LeftBy a (calls ++ call ∷ []) (answers ++ answer ∷ []))
     (choose calls answers) (λ call answer. choose (calls ++ call ∷ []) (answers ++ answer ∷ [])) exchange)
     earlier it
 
-pub LeavingTables-choice : {S : Type 0} (Are : List Exchange → Type 0) (A : Type 0) (T : Tables) (Left : List Call → List Answer → Tables → Type 0) (LeftBy : A → List Call → List Answer → Tables → Type 0)
+pub LeavingTables-choice : {S : Type 0} (Are : List Exchange → Type 0) (A : Type 0) (T : Tables) (Left : List Call → List Answer → Tables
+    → Type 0) (LeftBy : A → List Call → List Answer → Tables → Type 0)
     → ((calls : List Call) (answers : List Answer) → Left calls answers T → (a : A) × LeftBy a calls answers T)
     → (rules : Rules S) (given : Option ℕ) (count : ℕ) (s : S) → ServesFirst (LeavingTables Are Left T) rules given count s
     → (a : A) × ServesFirst (LeavingTables Are (LeftBy a) T) rules given count s
 LeavingTables-choice Are A T Left LeftBy choose rules given count s it =
-    let chosen = AsksEach-choice A (λ calls answers. Left calls answers T) (λ a calls answers. LeftBy a calls answers T) choose it.exchanges it.are.1 in
-    (chosen.0, record { exchanges = it.exchanges; are = (it.are.0, chosen.1); answered = it.answered; counted = it.counted; are_given = it.are_given })
+    let chosen = AsksEach-choice A (λ calls answers. Left calls answers T) (λ a calls answers. LeftBy a calls answers T)
+    choose it.exchanges it.are.1 in (
+      chosen.0,
+      record {
+        exchanges = it.exchanges;
+        are = (it.are.0, chosen.1);
+        answered = it.answered;
+        counted = it.counted;
+        are_given = it.are_given;
+      },
+    )

@@ -1,26 +1,30 @@
 -- Where an input is cut into lines.
-use Rattle.std.proofs.Common.{◌≡◌, ◌≢◌, ℕ, ◌+◌, ◌<◌, ◌≤◌, ◌⊎◌, inl, inr, List, [], ◌∷◌, ◌++◌, length, take, Option, Some, None, Bool, true, false, nat_lt, cond, refl, sym, ap, ◌∙◌, arith, ne_eqb, append-nil, append_assoc, length-append, take_all}
+use Rattle.std.proofs.Common.{◌≡◌, ◌≢◌, ℕ, ◌+◌, ◌<◌, ◌≤◌, ◌⊎◌, inl, inr, List, [], ◌∷◌, ◌++◌, length, take, Option, Some, None, Bool, true}
+use Rattle.std.proofs.Common.{false, nat_lt, cond, refl, sym, ap, ◌∙◌, arith, ne_eqb, append-nil, append_assoc, length-append, take_all}
 use Rattle.std.specs.List.{All}
 use Rattle.std.specs.Io.KnownBytes.{Consumes, IsAtEnd}
 use Rattle.std.proofs.KnownBytes.{Consumes-nil, Consumes-trans}
 use Rattle.std.proofs.lemmas.List.{take-append-le}
 use Rattle.std.proofs.lemmas.List.Elements.{All-head, All-nil, All-push, All-tail}
 use Rattle.index_io.specs.Bytes.{IsInput}
-use Rattle.index_cli.specs.Lines.{Charges, HasNoFeed, IsFrontOfLine, PartIsTaken, TakesLine, TakesLines, TakesLinesAndPart, TakesOneLine, line_feed, lines_of, longest_line, onto_first}
+use Rattle.index_cli.specs.Lines.{Charges, HasNoFeed, IsFrontOfLine, PartIsTaken, TakesLine, TakesLines, TakesLinesAndPart, TakesOneLine}
+use Rattle.index_cli.specs.Lines.{line_feed, lines_of, longest_line, onto_first}
 
 -- ---- the lines of what begins with a line
 
 lines_of-feed : (line rest : List ℕ) → HasNoFeed line → lines_of (line ++ line_feed ∷ rest) ≡ line ∷ lines_of rest
 lines_of-feed [] rest plain = refl
 lines_of-feed (byte ∷ line) rest plain =
-    ap (λ b. cond b ([] ∷ lines_of (line ++ line_feed ∷ rest)) (onto_first byte (lines_of (line ++ line_feed ∷ rest)))) (ne_eqb byte line_feed (plain 0 0 (omega arith)))
+    ap (λ b. cond b ([] ∷ lines_of (line ++ line_feed ∷ rest)) (onto_first byte (lines_of (line ++ line_feed ∷ rest))))
+    (ne_eqb byte line_feed (plain 0 0 (omega arith)))
     ∙ ap (onto_first byte) (lines_of-feed line rest (All-tail (λ x. x ≢ line_feed) byte line plain))
 
 lines_of-end : (line : List ℕ) → 0 < length line → HasNoFeed line → lines_of line ≡ line ∷ []
 lines_of-end [] some plain = absurd (omega arith)
 lines_of-end (byte ∷ []) some plain = ap (λ b. cond b ([] ∷ []) ((byte ∷ []) ∷ [])) (ne_eqb byte line_feed (plain 0 0 (omega arith)))
 lines_of-end (byte ∷ next ∷ line) some plain =
-    ap (λ b. cond b ([] ∷ lines_of (next ∷ line)) (onto_first byte (lines_of (next ∷ line)))) (ne_eqb byte line_feed (plain 0 0 (omega arith)))
+    ap (λ b. cond b ([] ∷ lines_of (next ∷ line)) (onto_first byte (lines_of (next ∷ line))))
+    (ne_eqb byte line_feed (plain 0 0 (omega arith)))
     ∙ ap (onto_first byte) (lines_of-end (next ∷ line) (omega arith) (All-tail (λ x. x ≢ line_feed) byte (next ∷ line) plain))
 
 -- ---- a line that grows by a byte
@@ -38,7 +42,8 @@ below_or n m = go (nat_lt n m) refl
     go true e = inl (grind (arith, e))
     go false e = inr (grind (arith, e))
 
-pub Grows-push : (a b c : Option (List ℕ)) (size byte : ℕ) (kept kept' : List ℕ) → Grows a b size kept → Consumes b c (byte ∷ []) → byte ≢ line_feed
+pub Grows-push : (a b c : Option (List ℕ)) (size byte : ℕ) (kept kept' : List ℕ) → Grows a b size kept → Consumes b c (byte ∷ [])
+    → byte ≢ line_feed
     → (size < longest_line → kept' ≡ kept ++ byte ∷ []) → (longest_line ≤ size → kept' ≡ kept) → Grows a c (size + 1) kept'
 Grows-push a b c size byte kept kept' grows next other near far = record {
   line = grows.line ++ byte ∷ [];
@@ -56,10 +61,12 @@ Grows-push a b c size byte kept kept' grows next other near far = record {
         ∙ sym (take_all longest_line (grows.line ++ byte ∷ []) (omega (arith, length-append grows.line (byte ∷ []), grows.is.sized)))
     front_of (inr h) = far h ∙ grows.is.front ∙ sym (take-append-le longest_line grows.line (byte ∷ []) (omega (arith, grows.is.sized)))
 
-pub Grows-feed : (a b c : Option (List ℕ)) (size : ℕ) (kept : List ℕ) → Grows a b size kept → Consumes b c (line_feed ∷ []) → TakesLine (Some size) kept a c
+pub Grows-feed : (a b c : Option (List ℕ)) (size : ℕ) (kept : List ℕ) → Grows a b size kept → Consumes b c (line_feed ∷ [])
+    → TakesLine (Some size) kept a c
 Grows-feed a b c size kept grows feed = (grows.line, grows.is, inl (Consumes-trans a b c _ _ grows.taken feed))
 
-pub Grows-end : (a b c : Option (List ℕ)) (size : ℕ) (kept : List ℕ) → Grows a b size kept → 0 < size → Consumes b c [] → IsAtEnd c → TakesLine (Some size) kept a c
+pub Grows-end : (a b c : Option (List ℕ)) (size : ℕ) (kept : List ℕ) → Grows a b size kept → 0 < size → Consumes b c [] → IsAtEnd c
+    → TakesLine (Some size) kept a c
 Grows-end a b c size kept grows some taken end =
     (grows.line, grows.is, inr (omega (arith, grows.is.sized), rw append-nil at (Consumes-trans a b c _ _ grows.taken taken), end))
 
@@ -70,7 +77,8 @@ with_feeds (line ∷ lines) = line ++ line_feed ∷ with_feeds lines
 lines_of-with_feeds : (lines : List (List ℕ)) → All HasNoFeed lines → lines_of (with_feeds lines) ≡ lines
 lines_of-with_feeds [] plain = refl
 lines_of-with_feeds (line ∷ lines) plain =
-    lines_of-feed line (with_feeds lines) (All-head HasNoFeed line lines plain) ∙ ap (λ l. line ∷ l) (lines_of-with_feeds lines (All-tail HasNoFeed line lines plain))
+    lines_of-feed line (with_feeds lines) (All-head HasNoFeed line lines plain)
+    ∙ ap (λ l. line ∷ l) (lines_of-with_feeds lines (All-tail HasNoFeed line lines plain))
 
 -- the bytes of the line so far, and one more
 pub Grows-byte : (a b c : Option (List ℕ)) (size byte : ℕ) (kept : List ℕ) → Grows a b size kept → Consumes b c (byte ∷ [])

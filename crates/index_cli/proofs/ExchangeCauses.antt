@@ -19,7 +19,13 @@ module _ {S K : Type 0} (ins : Ins S) (out : Outs K) (old new : S) (before after
   -- the end of an answer has its cause
   pub has_cause : {Unchanged : Type 0} (result : Result (Unit {0}) IoEnd) → StreamFailsOnly ins out old new before after result
       → (is_cut result ≡ true → Unchanged × GivesMessage asks_page given)
-      → EndHasCause (record { at = at; given = given; had = had; has = has; faults = record { reads = ins.failures new; writes = out.failures after } }) result
+      → EndHasCause (record {
+        at = at;
+        given = given;
+        had = had;
+        has = has;
+        faults = record { reads = ins.failures new; writes = out.failures after };
+      }) result
   has_cause (Ok done) fails cut = tt
   has_cause (Err ReadFault) fails cut = some_failed _ _ (fails.read_fault refl)
   has_cause (Err OutOfMemory) fails cut = tt

@@ -17,7 +17,8 @@ honest_or_mapped (inl honest) f = inl honest
 honest_or_mapped (inr (fault, told)) f = inr (fault, f told)
 
 -- a call after which the store is not shown to be honest was answered by a fault
-pub call_lasts : (H H' : Type 0) (T : Tables) (call : Call) (answer : Answer) (text : List ℕ) → text ≡ answer_text_of answer → Lasts answer H H' → H
+pub call_lasts : (H H' : Type 0) (T : Tables) (call : Call) (answer : Answer) (text : List ℕ) → text ≡ answer_text_of answer
+    → Lasts answer H H' → H
     → H' ⊎ (IsFaultText text × TextAnswersParsedLine by_tables (Some (line.Call call)) T text T)
 call_lasts H H' T call Accepted text is lasts honest = inl lasts
 call_lasts H H' T call Already text is lasts honest = inl (lasts honest)

@@ -1,5 +1,7 @@
 -- What a client is sent for a file name is what the history has of it, and so any two replies agree.
-use Rattle.std.proofs.Common.{◌≡◌, ◌∙◌, ◌<◌, ◌≤◌, ◌+◌, ◌/◌, ◌%◌, ◌^◌, ◌⊎◌, ℕ, Bool, true, false, cond, eqb, nat_lt, List, [], ◌∷◌, ◌++◌, Option, Some, None, refl, sym, ap, subst, inl, inr, arith, append_assoc, length-append, codes, decimal, drop, length, take, is_some, Result, Ok, Err, ne_eqb, ltb-false}
+use Rattle.std.proofs.Common.{◌≡◌, ◌∙◌, ◌<◌, ◌≤◌, ◌+◌, ◌/◌, ◌%◌, ◌^◌, ◌⊎◌, ℕ, Bool, true, false, cond, eqb, nat_lt, List, [], ◌∷◌, ◌++◌}
+use Rattle.std.proofs.Common.{Option, Some, None, refl, sym, ap, subst, inl, inr, arith, append_assoc, length-append, codes, decimal, drop}
+use Rattle.std.proofs.Common.{length, take, is_some, Result, Ok, Err, ne_eqb, ltb-false}
 use Rattle.std.proofs.lemmas.Fmt.{decimal_by_steps, length-decimal-le_succ}
 use Rattle.index_digest.specs.Digest.{sha256}
 use Rattle.index_io.specs.Counts.{HasFailed}
@@ -18,7 +20,8 @@ use Rattle.index_rules.proofs.Accepted.{accepted}
 use Rattle.index_rules.proofs.ServeLemmas.{serves_bound, serves_uploads}
 use Rattle.index_desk.specs.Rules.{by_history}
 use Rattle.index_http.specs.Ends.{ReplyEnds}
-use Rattle.index_http.specs.Exchanges.{Acts, InputGetsText, MessageGetsText, RequestGetsReply, ShowsFile, body_reply, refusal_reply, store_reply}
+use Rattle.index_http.specs.Exchanges.{Acts, InputGetsText, MessageGetsText, RequestGetsReply, ShowsFile, body_reply, refusal_reply}
+use Rattle.index_http.specs.Exchanges.{store_reply}
 use Rattle.index_http.specs.Shows.{asks_page}
 use Rattle.index_http.specs.declared.connection.IoEnd.{IoEnd}
 use Rattle.index_http.specs.declared.connection.IoEnd.TheVariants.{Cut, OutOfMemory, ReadFault, WriteFault}
@@ -65,7 +68,8 @@ after_call_is h call answer h' is = subst (IsFrontOf h) (sym is) (after_call h c
 
 -- ---- exchanges carry a history on
 
-pub acted : (Cause : Type 0) (by_put : Bool) (h : History) (call : Option Call) (reply : Reply) (h' : History) → Acts by_history Cause by_put h call reply h' → IsFrontOf h h'
+pub acted : (Cause : Type 0) (by_put : Bool) (h : History) (call : Option Call) (reply : Reply) (h' : History)
+    → Acts by_history Cause by_put h call reply h' → IsFrontOf h h'
 acted Cause by_put h None reply h' it = as_is h h' it.1
 acted Cause by_put h (Some call) reply h' it = after_call_is h call it.0 h' it.3
 
@@ -74,11 +78,13 @@ replied : (Cause : Type 0) (at : ℕ) (h : History) (request : HttpRequest) (bod
 replied Cause at h request body true reply h' it = as_is h h' it.1
 replied Cause at h request body false reply h' it = acted Cause _ h _ reply h' it
 
-replied_to : (Cause : Type 0) (at : ℕ) (h : History) (message : Message) (text : Bytes) (h' : History) → MessageGetsText by_history Cause at h message text h' → IsFrontOf h h'
+replied_to : (Cause : Type 0) (at : ℕ) (h : History) (message : Message) (text : Bytes) (h' : History)
+    → MessageGetsText by_history Cause at h message text h' → IsFrontOf h h'
 replied_to Cause at h (Faulty fault is_head) text h' it = as_is h h' it.1
 replied_to Cause at h (Whole request body) text h' it = replied Cause at h request body _ it.0 h' it.2
 
-sent : (IsReply : Bytes → Type 0) (h h' : History) → ((text : Bytes) → IsReply text → IsFrontOf h h') → (before after : Option Bytes) (result : Result (Unit {0}) IoEnd)
+sent : (IsReply : Bytes → Type 0) (h h' : History) → ((text : Bytes) → IsReply text → IsFrontOf h h')
+    → (before after : Option Bytes) (result : Result (Unit {0}) IoEnd)
     → ReplyEnds IsReply (h' ≡ h) before after result → IsFrontOf h h'
 sent IsReply h h' front before after (Ok done) it = front it.0 it.1
 sent IsReply h h' front before after (Err (WriteFault count)) it = front it.0 it.1
@@ -171,7 +177,8 @@ pieces : (bytes : Bytes) → drop 73 (reply_text false (file_reply bytes)) ≡ (
 unfolding reply_head head_text phrase_of fields_text
 pieces bytes = refl
 
-same_bytes : (first second : Bytes) → length second ≤ largest_body → reply_text false (file_reply first) ≡ reply_text false (file_reply second) → first ≡ second
+same_bytes : (first second : Bytes) → length second ≤ largest_body
+    → reply_text false (file_reply first) ≡ reply_text false (file_reply second) → first ≡ second
 same_bytes first second short is = same_behind first second short (sym (pieces first) ∙ ap (λ it. drop 73 it) is ∙ pieces second)
 
 -- ---- the status in a head
@@ -180,9 +187,11 @@ status_in : (reply : Reply) → take 3 (drop 9 (reply_text false reply)) ≡ dig
 unfolding reply_head head_text
 status_in reply = refl
 
-same_status : (reply : Reply) (bytes : Bytes) → reply.status < 1000 → reply_text false (file_reply bytes) ≡ reply_text false reply → reply.status ≡ 200
+same_status : (reply : Reply) (bytes : Bytes) → reply.status < 1000 → reply_text false (file_reply bytes) ≡ reply_text false reply
+    → reply.status ≡ 200
 same_status reply bytes low is =
-    same_digits 200 reply.status (omega arith) low (sym (status_in reply) ∙ ap (λ it. take 3 (drop 9 it)) (sym is) ∙ status_in (file_reply bytes))
+    same_digits 200 reply.status (omega arith) low
+    (sym (status_in reply) ∙ ap (λ it. take 3 (drop 9 it)) (sym is) ∙ status_in (file_reply bytes))
 
 no_refusal : (bytes : Bytes) → ¬ (reply_text false (file_reply bytes) ≡ reply_text false (refusal_reply NoFile))
 unfolding answer_reply
@@ -205,7 +214,8 @@ legal_front one (begins user token) front legal = subst IsLegal (sym front) lega
 legal_front one (more h e) (inl is) legal = subst IsLegal (sym is) legal
 legal_front one (more h e) (inr earlier) legal = legal_front one h earlier legal.0
 
-short_upload : (h : History) (at : ℕ) (token : Bytes) (r : Request) → verdict_after h (record { at = at; token = token; request = r }) ≡ Accept
+short_upload : (h : History) (at : ℕ) (token : Bytes) (r : Request)
+    → verdict_after h (record { at = at; token = token; request = r }) ≡ Accept
     → (file : Bytes) (first : Bytes × ℕ) → IsUploadOf r file first → first.1 ≤ largest_body
 short_upload h at token (Upload name declared body requires) accepts file first is =
     let c : Call = record { at = at; token = token; request = Upload name declared body requires } in
@@ -221,11 +231,13 @@ short_files (more h e) legal file first (inr has) = short_files h legal.0 file f
 
 -- ---- the bytes of a file
 
-module _ (h : History) (legal : IsLegal h) (file bytes : Bytes) (reply : Reply) (is : reply_text false (file_reply bytes) ≡ reply_text false reply) where
+module _ (h : History) (legal : IsLegal h) (file bytes : Bytes) (reply : Reply)
+    (is : reply_text false (file_reply bytes) ≡ reply_text false reply) where
   found : (body : Option Bytes) → body ≡ body_after h file → reply ≡ body_reply body → body_after h file ≡ Some bytes
   found None has shows = absurd (no_refusal bytes (is ∙ ap (λ it. reply_text false it) shows))
   found (Some body) has shows =
-      let short : length body ≤ largest_body = short_files h legal file (sha256 body, length body) (serves_uploads h h (itself h) file body (sym has)) in
+      let short : length body ≤ largest_body =
+      short_files h legal file (sha256 body, length body) (serves_uploads h h (itself h) file body (sym has)) in
       sym has ∙ ap (λ it. Some it) (sym (same_bytes bytes body short (is ∙ ap (λ it. reply_text false it) shows)))
 
   shown : (is_name : Bool) → ShowsFile by_history h file is_name reply → body_after h file ≡ Some bytes
@@ -234,7 +246,8 @@ module _ (h : History) (legal : IsLegal h) (file bytes : Bytes) (reply : Reply) 
 
 -- ---- the reply to a `GET` of a file name
 
-pub by_reply : (h : History) → IsLegal h → (file bytes : Bytes) (Cause : Type 0) (reply : Reply) → reply_text false (file_reply bytes) ≡ reply_text false reply
+pub by_reply : (h : History) → IsLegal h → (file bytes : Bytes) (Cause : Type 0) (reply : Reply)
+    → reply_text false (file_reply bytes) ≡ reply_text false reply
     → ShowsFile by_history h file (is_some (read_file_name file)) reply ⊎ ((reply ≡ store_reply) × Cause) → body_after h file ≡ Some bytes
 by_reply h legal file bytes Cause reply is (inl shows) = shown h legal file bytes reply is (is_some (read_file_name file)) shows
 by_reply h legal file bytes Cause reply is (inr failed) = absurd (no_fault bytes (is ∙ ap (λ it. reply_text false it) failed.0))
@@ -251,18 +264,23 @@ no_write_fault faults is some = let none : faults.writes ≡ 0 = ap (λ (it : St
 
 module _ (h h' : History) (legal : IsLegal h) (exchange : Exchange) (file bytes : Bytes) (got : GotFile exchange file bytes) where
   -- the message that was read is the one that was sent
-  same_message : (input : Bytes) (message : Message) → IsInput exchange.given input → IsMessage input message → message ≡ Whole (get_of_file file got.fields) got.sent
+  same_message : (input : Bytes) (message : Message) → IsInput exchange.given input → IsMessage input message
+      → message ≡ Whole (get_of_file file got.fields) got.sent
   same_message input message is_input is_message =
       let is : input ≡ got.input = subst (λ given. IsInput given input) got.given is_input in
-      at_most_one got.input message (Whole (get_of_file file got.fields) got.sent) (subst (λ it. IsMessage it message) is is_message) got.message
+      at_most_one got.input message (Whole (get_of_file file got.fields) got.sent) (subst (λ it. IsMessage it message) is is_message)
+      got.message
 
-  whole : (Cause : Type 0) (text : Bytes) → reply_text false (file_reply bytes) ≡ text → InputGetsText by_history Cause exchange.at h exchange.given text h' → body_after h file ≡ Some bytes
+  whole : (Cause : Type 0) (text : Bytes) → reply_text false (file_reply bytes) ≡ text
+      → InputGetsText by_history Cause exchange.at h exchange.given text h' → body_after h file ≡ Some bytes
   whole Cause text is (input, message, is_input, is_message, gets) =
-      let replies = subst (λ it. MessageGetsText by_history Cause exchange.at h it text h') (same_message input message is_input is_message) gets in
+      let replies = subst (λ it. MessageGetsText by_history Cause exchange.at h it text h') (same_message input message is_input is_message)
+      gets in
       by_reply h legal file bytes Cause replies.0 (is ∙ replies.1) replies.2.0
 
   by_end : (ended : Result (Unit {0}) IoEnd) (Cause : Type 0) → EndHasCause exchange ended
-      → ReplyEnds (λ text. InputGetsText by_history Cause exchange.at h exchange.given text h') (h' ≡ h) (Some []) (Some (reply_text false (file_reply bytes))) ended
+      → ReplyEnds (λ text. InputGetsText by_history Cause exchange.at h exchange.given text h') (h' ≡ h) (Some [])
+      (Some (reply_text false (file_reply bytes))) ended
       → body_after h file ≡ Some bytes
   by_end (Ok done) Cause cause (text, gets, sends) = whole Cause text sends gets
   by_end (Err ReadFault) Cause cause ends = absurd (no_read_fault exchange.faults got.unfailed cause)
@@ -276,8 +294,10 @@ module _ (h h' : History) (legal : IsLegal h) (exchange : Exchange) (file bytes 
   pub sent_is_served : ExchangeIsAnswered by_history exchange h h' → body_after h file ≡ Some bytes
   sent_is_served one =
       by_end one.ended _ one.cause
-      (subst (λ has. ReplyEnds (λ text. InputGetsText by_history (HasFailed one.failures one.later_failures) exchange.at h exchange.given text h') (h' ≡ h) (Some []) has one.ended) got.has
-      (subst (λ had. ReplyEnds (λ text. InputGetsText by_history (HasFailed one.failures one.later_failures) exchange.at h exchange.given text h') (h' ≡ h) had exchange.has one.ended) got.had one.ends))
+      (subst (λ has. ReplyEnds (λ text. InputGetsText by_history (HasFailed one.failures one.later_failures)
+      exchange.at h exchange.given text h') (h' ≡ h) (Some []) has one.ended) got.has
+      (subst (λ had. ReplyEnds (λ text. InputGetsText by_history (HasFailed one.failures one.later_failures)
+      exchange.at h exchange.given text h') (h' ≡ h) had exchange.has one.ended) got.had one.ends))
 
 -- ---- exchanges
 
@@ -286,8 +306,12 @@ pub sent_at_some_point : (exchanges : List Exchange) (h later : History) → IsL
     → (one : Exchange) → IsAmong one exchanges → (file bytes : Bytes) → GotFile one file bytes → IsServedAt later file bytes
 sent_at_some_point [] h later legal answered one among file bytes got = absurd among
 sent_at_some_point (exchange ∷ earlier) h later legal (between, each, answers) one (inl is) file bytes got =
-    let front = answered_each (exchange ∷ []) between later (between, refl, answers) in
-    (between, front, sent_is_served between later (legal_front between later front legal) exchange file bytes (subst (λ it. GotFile it file bytes) is got) answers)
+    let front = answered_each (exchange ∷ []) between later (between, refl, answers) in (
+      between,
+      front,
+      sent_is_served between later (legal_front between later front legal) exchange file bytes
+          (subst (λ it. GotFile it file bytes) is got) answers,
+    )
 sent_at_some_point (exchange ∷ earlier) h later legal (between, each, answers) one (inr among) file bytes got =
     let front = answered_each (exchange ∷ []) between later (between, refl, answers) in
     let it = sent_at_some_point earlier h between (legal_front between later front legal) each one among file bytes got in
@@ -312,9 +336,11 @@ replies_agree exchanges h later legal answered one other is is' file first secon
 -- ---- what a desk answered
 
 module _ {S : Type 0} (desk : DeskStep S) (Are : List Exchange → Type 0) (given : Option ℕ) (IsCount : ℕ → Type 0)
-    (it : DeskAnswersConnections desk Are given IsCount) (h : History) (legal : IsLegal h) (stands : StandsFor (desk.books.tables desk.old) h) where
+    (it : DeskAnswersConnections desk Are given IsCount) (h : History) (legal : IsLegal h)
+    (stands : StandsFor (desk.books.tables desk.old) h) where
   -- if the store is honest at the end: of all connections
-  pub desk_replies_agree : desk.books.IsHonest desk.new → (one other : Exchange) → IsAmong one it.exchanges → IsAmong other it.exchanges → RepliesAgree one other
+  pub desk_replies_agree : desk.books.IsHonest desk.new → (one other : Exchange) → IsAmong one it.exchanges → IsAmong other it.exchanges
+      → RepliesAgree one other
   desk_replies_agree honest =
       let now = (it.answered honest).history h legal stands in
       replies_agree it.exchanges h now.later now.shows.0 now.is

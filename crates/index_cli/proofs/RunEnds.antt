@@ -24,8 +24,10 @@ failed_or_spent f0 f1 f2 first left now a b c same charged more (inr none) =
 
 -- ---- if more may be told of the same lines by the same text
 
-module _ (tells tells' : Telling) (T T' : Tables) (f : (lines : List (List ℕ)) (text : List ℕ) → tells lines text T → tells' lines text T') where
-  all_map : (a b w0 w1 : Option (List ℕ)) (count : ℕ) → AllLinesAreAnswered tells T a b w0 w1 count → AllLinesAreAnswered tells' T' a b w0 w1 count
+module _ (tells tells' : Telling) (T T' : Tables) (f : (lines : List (List ℕ)) (text : List ℕ) → tells lines text T
+    → tells' lines text T') where
+  all_map : (a b w0 w1 : Option (List ℕ)) (count : ℕ) → AllLinesAreAnswered tells T a b w0 w1 count
+      → AllLinesAreAnswered tells' T' a b w0 w1 count
   all_map a b w0 w1 count e = record {
     input = e.input;
     text = e.text;
@@ -66,7 +68,8 @@ module _ (tells tells' : Telling) (T T' : Tables) (f : (lines : List (List ℕ))
     wrote = e.wrote;
   }
 
-  pub LinesEnd-map : (a b w0 w1 : Option (List ℕ)) (result : Result ℕ LineEnd) → LinesEnd tells T a b w0 w1 result → LinesEnd tells' T' a b w0 w1 result
+  pub LinesEnd-map : (a b w0 w1 : Option (List ℕ)) (result : Result ℕ LineEnd) → LinesEnd tells T a b w0 w1 result
+      → LinesEnd tells' T' a b w0 w1 result
   LinesEnd-map a b w0 w1 (Ok count) e = all_map a b w0 w1 count e
   LinesEnd-map a b w0 w1 (Err ReadFault) e = before_map a b w0 w1 e
   LinesEnd-map a b w0 w1 (Err WriteFault) e = during_map a b w0 w1 e

@@ -20,7 +20,12 @@ module _ {C : Type 0} (coming : C → KnownList) (replies : C → KnownReplies) 
   pub are_on : (first now new : C) → IsRest (coming now) (coming new) → replies new ≡ replies now
       → (exchanges : List Exchange) → AreSoFar first now exchanges → AreOn coming replies first new exchanges
   are_on first now new rest same exchanges it =
-      record { later = coming now; came = it.0; rest = rest; closed = subst (λ (r : KnownReplies). Closed (replies first) r exchanges) (sym same) it.1 }
+      record {
+        later = coming now;
+        came = it.0;
+        rest = rest;
+        closed = subst (λ (r : KnownReplies). Closed (replies first) r exchanges) (sym same) it.1;
+      }
 
   -- one more was
   pub are_push : {S : Type 0} (g : Ghosts S) (old new : S) (first now after : C) (given : Option ℕ)
@@ -58,7 +63,8 @@ none_sent : (replies : KnownReplies) → IsUnsent replies (Some [])
 none_sent None = refl
 none_sent (Some replies) = refl
 
-pub closed_at_once : {S C : Type 0} (g : Ghosts S) (s : S) (coming : C → KnownList) (replies : C → KnownReplies) (before after : C) (given : Option ℕ)
+pub closed_at_once : {S C : Type 0} (g : Ghosts S) (s : S) (coming : C → KnownList) (replies : C
+    → KnownReplies) (before after : C) (given : Option ℕ)
     → Loses (coming before) (coming after) (replies before) (replies after)
     → NextConnectionIsAnswered given (at_desk g s s) (on_connections coming replies before after)
 closed_at_once g s coming replies before after given lost = record {

@@ -51,7 +51,8 @@ each_history h legal T stands (exchange ∷ earlier) T' (between, each, one) =
     let it = one_history before.later before.shows.0 between T' before.shows.1 exchange one in
     record { later = it.later; is = (before.later, before.is, it.is); shows = it.shows }
 
-fails_history : (h : History) → IsLegal h → (T : Tables) → StandsFor T h → (exchange : Exchange) → ExchangeShowsFailure by_tables exchange T → ExchangeShowsFailure by_history exchange h
+fails_history : (h : History) → IsLegal h → (T : Tables) → StandsFor T h → (exchange : Exchange) → ExchangeShowsFailure by_tables exchange T
+    → ExchangeShowsFailure by_history exchange h
 fails_history h legal T stands exchange it =
     let one = one_history h legal T it.later stands exchange it.answers in
     record {
@@ -112,19 +113,23 @@ module _ {S : Type 0} (g : Ghosts S) (now new : S) where
   abbrev Quiet : Type 0
   Quiet = g.IsHonest new → g.tables new ≡ g.tables now
 
-  of_call : (call : Call) (answer : Answer) → Takes g now new call answer → g.IsClean new → (it : Stays ⊎ Quiet) × NotAccepted {H = Stays} {N = Quiet} it call answer
+  of_call : (call : Call) (answer : Answer) → Takes g now new call answer → g.IsClean new
+      → (it : Stays ⊎ Quiet) × NotAccepted {H = Stays} {N = Quiet} it call answer
   of_call call Accepted took clean = (inl (took.settles.lasts clean, took.settles.kept refl), tt)
   of_call call Already took clean = (inr (λ honest. took.settles.unchanged honest (λ is. cc is)), λ is. cc is)
   of_call call (Refused refusal) took clean = (inr (λ honest. took.settles.unchanged honest (λ is. cc is)), λ is. cc is)
   of_call call (Fault fault) took clean = (inr (λ honest. took.settles.unchanged honest (λ is. cc is)), λ is. cc is)
 
   -- the count of failed stores does not fall
-  pub asks_count : (exchange : Exchange) → AsksOne exchange (LeavesTables g now new) (Takes g now new) → NeverFalls (g.stores now) (g.stores new)
+  pub asks_count : (exchange : Exchange) → AsksOne exchange (LeavesTables g now new) (Takes g now new)
+      → NeverFalls (g.stores now) (g.stores new)
   asks_count exchange asks =
-      (AsksOne-choice (NeverFalls (g.stores now) (g.stores new)) (LeavesTables g now new) (λ it. Unit {0}) (Takes g now new) (λ it call answer. Unit {0})
+      (AsksOne-choice (NeverFalls (g.stores now) (g.stores new)) (LeavesTables g now new) (λ it. Unit {0}) (Takes g now new)
+      (λ it call answer. Unit {0})
       (λ looked. (looked.counted, tt)) (λ call answer took. (never_falls _ _ _ took.settles.stores, tt)) exchange asks).0
 
-  pub stays_or_quiet : (exchange : Exchange) → g.IsClean new → AsksOne exchange (LeavesTables g now new) (Takes g now new) → Stays ⊎ (Quiet × AcceptsNothing exchange)
+  pub stays_or_quiet : (exchange : Exchange) → g.IsClean new → AsksOne exchange (LeavesTables g now new) (Takes g now new)
+      → Stays ⊎ (Quiet × AcceptsNothing exchange)
   stays_or_quiet exchange clean asks =
       let it = AsksOne-choice (Stays ⊎ Quiet) (LeavesTables g now new) (λ it. Unit {0}) (Takes g now new) NotAccepted
       (λ looked. (inr looked.unchanged, tt)) (λ call answer took. of_call call answer took clean) exchange asks in
@@ -135,7 +140,8 @@ module _ {S : Type 0} (g : Ghosts S) (now new : S) where
       which (inr quiet) asks = inr (quiet, asks)
 
   -- what a crash leaves: what it could before, or the call if a fault was answered
-  module _ (clean : g.IsClean new) (one : g.IsHonest now → HasOneBearer (g.tables now)) (T reached : Tables) (same : g.IsHonest now → g.tables now ≡ reached) (left : g.may_leave new T) where
+  module _ (clean : g.IsClean new) (one : g.IsHonest now → HasOneBearer (g.tables now)) (T reached : Tables) (same : g.IsHonest now
+      → g.tables now ≡ reached) (left : g.may_leave new T) where
     abbrev pub Was : Type 0
     Was = g.IsHonest new ⊎ g.may_leave now T
 
@@ -147,7 +153,8 @@ module _ {S : Type 0} (g : Ghosts S) (now new : S) where
     CallMade (inl was) call answer = Unit {0}
     CallMade (inr made) call answer = (answers_fault answer ≡ true) × HasCall by_tables reached call T
 
-    by_answer : (call : Call) (answer : Answer) → Takes g now new call answer → g.may_leave now T ⊎ AnswerLeavesTables (g.may_leave now) (HasCall by_tables reached call) answer T
+    by_answer : (call : Call) (answer : Answer) → Takes g now new call answer
+        → g.may_leave now T ⊎ AnswerLeavesTables (g.may_leave now) (HasCall by_tables reached call) answer T
         → (it : Was ⊎ Unit {0}) × CallMade it call answer
     by_answer call answer took (inl was) = (inl (inr was), tt)
     by_answer call Accepted took (inr leaves) = (inl (inl (took.settles.lasts clean)), tt)
@@ -159,7 +166,8 @@ module _ {S : Type 0} (g : Ghosts S) (now new : S) where
     pub call_leaves : (call : Call) (answer : Answer) → Takes g now new call answer → (it : Was ⊎ Unit {0}) × CallMade it call answer
     call_leaves call answer took = by_answer call answer took (elim (took.settles.nothing_new T left) [
       | inl was ↦ inl was
-      | inr honest ↦ inr (subst (λ x. AnswerLeavesTables (g.may_leave now) (HasCall by_tables x call) answer T) (same honest) ((took.crash honest clean T left).tables (one honest)))
+      | inr honest ↦ inr (subst (λ x. AnswerLeavesTables (g.may_leave now) (HasCall by_tables x call) answer T) (same honest)
+          ((took.crash honest clean T left).tables (one honest)))
     ])
 
     pub exchange_leaves : (exchange : Exchange) → AsksOne exchange (LeavesTables g now new) (Takes g now new)
@@ -169,7 +177,8 @@ module _ {S : Type 0} (g : Ghosts S) (now new : S) where
         (λ looked. (inl (inr (looked.crash T left)), tt)) call_leaves exchange asks in
         which it.0 it.1
       where
-        which : (it : Was ⊎ Unit {0}) → AsksOne exchange (LookMade it) (CallMade it) → Was ⊎ AsksOne exchange ⊥ (λ call answer. (answers_fault answer ≡ true) × HasCall by_tables reached call T)
+        which : (it : Was ⊎ Unit {0}) → AsksOne exchange (LookMade it) (CallMade it)
+            → Was ⊎ AsksOne exchange ⊥ (λ call answer. (answers_fault answer ≡ true) × HasCall by_tables reached call T)
         which (inl was) asks = inl was
         which (inr made) asks = inr asks
 
@@ -209,7 +218,8 @@ module _ {S : Type 0} (g : Ghosts S) where
     crash = λ T left. inl (settled now honest T left);
   }
 
-  pub served_none : (Are : List Exchange → Type 0) → Are [] → (given : Option ℕ) (first : S) → ((s : S) → g.IsHonest s → (T : Tables) → g.may_leave s T → T ≡ g.tables s)
+  pub served_none : (Are : List Exchange → Type 0) → Are [] → (given : Option ℕ) (first : S)
+      → ((s : S) → g.IsHonest s → (T : Tables) → g.may_leave s T → T ≡ g.tables s)
       → ServedSoFar Are given first first 0
   served_none Are none given first settled = record {
     exchanges = [];
@@ -225,14 +235,16 @@ module _ {S : Type 0} (g : Ghosts S) where
       (before : KeepsInvariants g first now) (answers : DeskAnswersExchange g now mid exchange) (looked : LeavesTables g mid new)
       (idle : g.failures mid ≡ g.failures now → new ≡ mid) where
     told_push : (g.IsHonest now → HasOneBearer (g.tables first) → ExchangesAreAnswered by_tables exchanges (g.tables first) (g.tables now))
-        → g.IsHonest new → HasOneBearer (g.tables first) → ExchangesAreAnswered by_tables (exchange ∷ exchanges) (g.tables first) (g.tables new)
+        → g.IsHonest new → HasOneBearer (g.tables first)
+        → ExchangesAreAnswered by_tables (exchange ∷ exchanges) (g.tables first) (g.tables new)
     told_push told honest one =
         let then = looked.honest honest in
         let was = answers.keeps.honest then in
         (g.tables now, told was one, rw (looked.unchanged honest) (answers.tables then (before.one_bearer was one)))
 
     -- no call was accepted, and a fault has shut the store
-    went_quiet : g.IsClean new → HasOneBearer (g.tables first) → (g.IsHonest mid → g.tables mid ≡ g.tables now) → (later earlier : List Exchange) → exchanges ≡ later ++ earlier
+    went_quiet : g.IsClean new → HasOneBearer (g.tables first) → (g.IsHonest mid → g.tables mid ≡ g.tables now)
+        → (later earlier : List Exchange) → exchanges ≡ later ++ earlier
         → (reached : Tables) → ExchangesAreAnswered by_tables earlier (g.tables first) reached → (g.IsHonest now → g.tables now ≡ reached)
         → ((T : Tables) → g.may_leave now T → (T ≡ reached) ⊎ MayHaveMade by_tables later reached T)
         → BeginsByFailure by_tables (exchange ∷ later) reached → WentSoFar first new (exchange ∷ exchanges)
@@ -246,21 +258,24 @@ module _ {S : Type 0} (g : Ghosts S) where
           answered = answered;
           same = λ honest. looked.unchanged honest ∙ same_then (looked.honest honest);
           shut = inr begins;
-          crash = λ T left. elim (exchange_leaves g now mid (looked.clean clean) (λ honest. before.one_bearer honest one) T reached same (looked.crash T left) exchange answers.asks) [
-            | inl was ↦ elim was [
-              | inl honest ↦ inl (settled mid honest T (looked.crash T left) ∙ same_then honest)
-              | inr may ↦ elim (crash T may) [ inl is ↦ inl is | inr made ↦ inr (inr made) ]
-            ]
-            | inr made ↦ inr (inl made)
-          ];
+          crash = λ T left. elim (exchange_leaves g now mid (looked.clean clean) (λ honest. before.one_bearer honest one) T reached same
+              (looked.crash T left) exchange answers.asks) [
+                | inl was ↦ elim was [
+                  | inl honest ↦ inl (settled mid honest T (looked.crash T left) ∙ same_then honest)
+                  | inr may ↦ elim (crash T may) [ inl is ↦ inl is | inr made ↦ inr (inr made) ]
+                ]
+                | inr made ↦ inr (inl made)
+              ];
         }
 
-    went_push : (told : g.IsHonest now → HasOneBearer (g.tables first) → ExchangesAreAnswered by_tables exchanges (g.tables first) (g.tables now))
+    went_push : (told : g.IsHonest now → HasOneBearer (g.tables first)
+        → ExchangesAreAnswered by_tables exchanges (g.tables first) (g.tables now))
         → g.IsClean new → HasOneBearer (g.tables first) → WentSoFar first now exchanges → WentSoFar first new (exchange ∷ exchanges)
     went_push told clean one it =
         let clean_then = looked.clean clean in
         let honest_then = λ (is : StaysHonest (at_desk g now mid)). subst g.IsHonest (sym (idle is.1)) is.0 in
-        let stays = λ (is : StaysHonest (at_desk g now mid)). all_answered first new (exchange ∷ exchanges) settled (honest_then is) (told_push told (honest_then is) one) in
+        let stays = λ (is : StaysHonest (at_desk g now mid)). all_answered first new (exchange ∷ exchanges) settled (honest_then is)
+        (told_push told (honest_then is) one) in
         elim (stays_or_quiet g now mid exchange clean_then answers.asks) [
           | inl is ↦ stays is
           | inr quiet ↦ elim it.shut [
@@ -295,7 +310,8 @@ module _ {S : Type 0} (g : Ghosts S) where
 
   -- ---- at an end
 
-  went_at_end : (first now : S) (exchanges : List Exchange) → WentSoFar first now exchanges → Went by_tables exchanges (g.tables first) (g.may_leave now)
+  went_at_end : (first now : S) (exchanges : List Exchange) → WentSoFar first now exchanges
+      → Went by_tables exchanges (g.tables first) (g.may_leave now)
   went_at_end first now exchanges it = record {
     later = it.later;
     earlier = it.earlier;
@@ -316,11 +332,13 @@ module _ {S : Type 0} (g : Ghosts S) where
     are_given = it.are_given;
     answered = λ honest. record {
       tables = λ one. record { later = g.tables now; is = it.told honest one; shows = refl };
-      history = λ h legal stands. each_history h legal (g.tables first) stands it.exchanges (g.tables now) (it.told honest (sound_when_legal h legal _ stands).one_bearer);
+      history = λ h legal stands. each_history h legal (g.tables first) stands it.exchanges (g.tables now)
+          (it.told honest (sound_when_legal h legal _ stands).one_bearer);
     };
     went = λ honest clean. record {
       tables = λ one. went_at_end first now it.exchanges (it.went honest clean one);
       history = λ h legal stands.
-          went_history h legal (g.tables first) stands it.exchanges (g.may_leave now) (went_at_end first now it.exchanges (it.went honest clean (sound_when_legal h legal _ stands).one_bearer));
+          went_history h legal (g.tables first) stands it.exchanges (g.may_leave now)
+          (went_at_end first now it.exchanges (it.went honest clean (sound_when_legal h legal _ stands).one_bearer));
     };
   }

@@ -1,5 +1,6 @@
 -- The files of a name weigh what they are charged, and in sound tables each charge is right.
-use Rattle.std.proofs.Common.{◌≡◌, ℕ, ◌+◌, Bool, true, false, cond, not, refl, sym, ap, ◌∙◌, List, [], ◌∷◌, Some, map, filter, sum_by, count_by, arith}
+use Rattle.std.proofs.Common.{◌≡◌, ℕ, ◌+◌, Bool, true, false, cond, not, refl, sym, ap, ◌∙◌, List, [], ◌∷◌, Some, map, filter, sum_by}
+use Rattle.std.proofs.Common.{count_by, arith}
 use Rattle.std.specs.List.{AllByRecursion}
 use Rattle.std.specs.FinMap.{get, entries}
 use Rattle.std.proofs.lemmas.Bool.{eq-eqb, false≢true, and_parts}
@@ -19,11 +20,19 @@ use Rattle.index_desk.specs.Checks.{charge_of, is_charged_wrong_in, wrong_charge
 use Rattle.index_desk.proofs.EntryRows.{each_entry}
 
 module _ (T : Tables) (n : Bytes) where
-  sizes_of : (es : List (Bytes × FileRecord)) → sum_by (λ (file : FileRow). file.size) (map (file_row_in T n) (filter (λ e. is_undeleted_of n e.1) es)) ≡ sum_by (λ e. charged_size n e.1) es
+  sizes_of : (es : List (Bytes × FileRecord)) → sum_by (λ (file : FileRow). file.size)
+      (map (file_row_in T n) (filter (λ e. is_undeleted_of n e.1) es)) ≡ sum_by (λ e. charged_size n e.1) es
   sizes_of [] = refl
   sizes_of (e ∷ es) =
-      elim (is_undeleted_of n e.1) as (λ b. sum_by (λ (file : FileRow). file.size) (map (file_row_in T n) (cond b (e ∷ filter (λ e. is_undeleted_of n e.1) es) (filter (λ e. is_undeleted_of n e.1) es))) ≡ cond b e.1.size 0 + sum_by (λ e. charged_size n e.1) es) [
-        | true ↦ omega (arith, sum_by-cons (λ (file : FileRow). file.size) (file_row_in T n e) (map (file_row_in T n) (filter (λ e. is_undeleted_of n e.1) es)), sizes_of es)
+      elim (is_undeleted_of n e.1) as (λ b. sum_by (λ (file : FileRow). file.size)
+      (map (file_row_in T n) (cond b (e ∷ filter (λ e. is_undeleted_of n e.1) es) (filter (λ e. is_undeleted_of n e.1) es)))
+      ≡ cond b e.1.size 0 + sum_by (λ e. charged_size n e.1) es) [
+        | true ↦ omega (
+          arith,
+          sum_by-cons (λ (file : FileRow). file.size) (file_row_in T n e)
+              (map (file_row_in T n) (filter (λ e. is_undeleted_of n e.1) es)),
+          sizes_of es,
+        )
         | false ↦ omega (arith, sizes_of es)
       ]
       ∙ sym (sum_by-cons (λ (e : Bytes × FileRecord). charged_size n e.1) e es)
@@ -33,7 +42,8 @@ module _ (T : Tables) (n : Bytes) where
   sizes_are_charged = sizes_of (entries T.files)
 
 -- if no row passes, none is counted
-count_by-none : {E R : Type 0} (row : E → R) (test : R → Bool) (es : List E) → AllByRecursion (λ e. test (row e) ≡ false) es → count_by test (map row es) ≡ 0
+count_by-none : {E R : Type 0} (row : E → R) (test : R → Bool) (es : List E) → AllByRecursion (λ e. test (row e) ≡ false) es
+    → count_by test (map row es) ≡ 0
 count_by-none row test [] none = refl
 count_by-none row test (e ∷ es) none =
     let here : ◌≡◌ {A = ℕ} (cond (test (row e)) 1 0) 0 = ap (λ b. cond b 1 0) none.0 in
@@ -42,13 +52,14 @@ count_by-none row test (e ∷ es) none =
 module _ (T : Tables) (sound : IsSound T) where
   -- a prohibited name has no undeleted file
   nothing_charged : (n : Bytes) → is_held (get T.names n) ≡ false → charge_in T n ≡ 0
-  nothing_charged n free = total-zero (charged_size n) T.files (λ file found there. elim (is_undeleted_of n found) as (λ b. is_undeleted_of n found ≡ b → cond b found.size 0 ≡ 0) [
-    | true ↦ λ mine.
-        let parts = and_parts _ _ mine in
-        let held = sound.undeleted_held file found there parts.0 in
-        absurd (false≢true (sym free ∙ ap (λ m. is_held (get T.names m)) (same-is n found.project parts.1) ∙ held))
-    | false ↦ λ _. refl
-  ] refl)
+  nothing_charged n free = total-zero (charged_size n) T.files
+      (λ file found there. elim (is_undeleted_of n found) as (λ b. is_undeleted_of n found ≡ b → cond b found.size 0 ≡ 0) [
+        | true ↦ λ mine.
+            let parts = and_parts _ _ mine in
+            let held = sound.undeleted_held file found there parts.0 in
+            absurd (false≢true (sym free ∙ ap (λ m. is_held (get T.names m)) (same-is n found.project parts.1) ∙ held))
+        | false ↦ λ _. refl
+      ] refl)
 
   charge_is_right : (n : Bytes) (found : NameRecord) → get T.names n ≡ Some found → charge_of found ≡ charge_in T n
   charge_is_right n (known.Held project) there = sound.charge n project (ap held_project there)
@@ -57,4 +68,5 @@ module _ (T : Tables) (sound : IsSound T) where
   -- in sound tables no charge is wrong
   pub none_charged_wrong : wrong_charges_in T ≡ 0
   none_charged_wrong = count_by-none name_row (is_charged_wrong_in T) (entries T.names)
-      (each_entry (λ e. is_charged_wrong_in T (name_row e) ≡ false) T.names (λ n found there. ap not (eq-eqb _ _ (charge_is_right n found there))))
+      (each_entry (λ e. is_charged_wrong_in T (name_row e) ≡ false) T.names
+      (λ n found there. ap not (eq-eqb _ _ (charge_is_right n found there))))

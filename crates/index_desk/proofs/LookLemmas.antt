@@ -12,7 +12,8 @@ use Rattle.index_desk.specs.Rules.{by_history, by_tables}
 
 module _ {S : Type 0} (g : Ghosts S) (old new : S) where
   pub looks_by : {X : Type 0} (result : Result X Fault) (Holds : Finding X)
-      → ((h : History) → StandsFor (g.tables old) h → (found : X) → Holds Tables by_tables (g.tables old) found → Holds History by_history h found)
+      → ((h : History) → StandsFor (g.tables old) h → (found : X) → Holds Tables by_tables (g.tables old) found
+      → Holds History by_history h found)
       → (g.IsHonest new → IfOk result (Holds Tables by_tables (g.tables old))) → ReadsTables g old new result
       → LooksBy g old new result Holds
   looks_by result Holds after found look = record {
@@ -21,7 +22,8 @@ module _ {S : Type 0} (g : Ghosts S) (old new : S) where
     look = look;
   }
 
-  pub hands_over : {X Rows : Type 0} (result : Result X WalkEnd) (rows_in : Tables → Rows) (AreRowsAfter : History → Rows → Type 0) (Hands : Rows → Type 0)
+  pub hands_over : {X Rows : Type 0} (result : Result X WalkEnd) (rows_in : Tables → Rows) (AreRowsAfter : History → Rows
+      → Type 0) (Hands : Rows → Type 0)
       → ((h : History) → StandsFor (g.tables old) h → AreRowsAfter h (rows_in (g.tables old)))
       → (g.IsHonest old → g.IsClean new → Hands (rows_in (g.tables old))) → (rows : Rows) × Hands rows → WalksTables g old new result
       → HandsOver g old new result rows_in AreRowsAfter Hands

@@ -1,5 +1,6 @@
 -- A file that is served stands on the page of its project, once, and on no other page.
-use Rattle.std.proofs.Common.{◌≡◌, ◌||◌, ℕ, Bool, true, false, cond, ◌&&◌, inl, inr, refl, sym, ap, ◌∙◌, subst, List, [], ◌∷◌, Option, Some, None, is_some, map, option_map}
+use Rattle.std.proofs.Common.{◌≡◌, ◌||◌, ℕ, Bool, true, false, cond, ◌&&◌, inl, inr, refl, sym, ap, ◌∙◌, subst, List, [], ◌∷◌, Option, Some}
+use Rattle.std.proofs.Common.{None, is_some, map, option_map}
 use Rattle.std.specs.Option.{option_map_or}
 use Rattle.std.specs.List.{AllByRecursion, list_any}
 use Rattle.std.specs.List.Sorted.{IsStrictlySortedBy}
@@ -35,7 +36,8 @@ files-rows : (h : History) (files : List Bytes) → map (λ row. row.file) (map 
 files-rows h [] = refl
 files-rows h (g ∷ files) = ap (λ rest. g ∷ rest) (files-rows h files)
 
-digests-rows : (h : History) (f digest : Bytes) → digest_after h f ≡ digest → (files : List Bytes) → AllByRecursion (λ row. row.file ≡ f → row.digest ≡ digest) (map (file_row_after h) files)
+digests-rows : (h : History) (f digest : Bytes) → digest_after h f ≡ digest → (files : List Bytes)
+    → AllByRecursion (λ row. row.file ≡ f → row.digest ≡ digest) (map (file_row_after h) files)
 digests-rows h f digest is [] = tt
 digests-rows h f digest is (g ∷ files) = (λ same. ap (digest_after h) same ∙ is, digests-rows h f digest is files)
 
@@ -66,11 +68,16 @@ module _ (h : History) (legal : IsLegal h) (f bytes : Bytes) (is : body_after h 
 
   on_page : IsOnItsPage h f bytes
   on_page = record {
-    held = sym (held_state h (project_of f) (state_after h (project_of f))) ∙ sym (ap is_held ((legal_made h legal).stands.names (project_of f))) ∙ (legal_made h legal).sound.undeleted_held f record_there found there;
+    held = sym (held_state h (project_of f) (state_after h (project_of f)))
+        ∙ sym (ap is_held ((legal_made h legal).stands.names (project_of f)))
+        ∙ (legal_made h legal).sound.undeleted_held f record_there found there;
     page = λ n rows are. ap (has_file f) are.1.2 ∙ any-rows h f are.1.0 ∙ are.1.1.1 f ∙ ap (λ b. b && same n (project_of f)) there;
-    once = λ n rows are. subst (λ files. IsStrictlySortedBy bytes_cmp files) (sym (files-rows h are.1.0) ∙ sym (ap (map (λ row. row.file)) are.1.2)) are.1.1.0;
+    once = λ n rows are. subst (λ files. IsStrictlySortedBy bytes_cmp files)
+        (sym (files-rows h are.1.0) ∙ sym (ap (map (λ row. row.file)) are.1.2)) are.1.1.0;
     digest = λ n rows are. subst (λ rows. AllByRecursion (λ row. row.file ≡ f → row.digest ≡ sha256 bytes) rows) (sym are.1.2)
-        (digests-rows h f (sha256 bytes) (ap (λ o. option_map_or (λ x. x.0) o []) first.1 ∙ sym ((legal_made h legal).sound.bytes f bytes record_there ((legal_made h legal).stands.bodies f ∙ is) found).digest) are.1.0);
+        (digests-rows h f (sha256 bytes) (ap (λ o. option_map_or (λ x. x.0) o []) first.1
+        ∙ sym ((legal_made h legal).sound.bytes f bytes record_there ((legal_made h legal).stands.bodies f ∙ is) found).digest)
+        are.1.0);
   }
 
 pub serves_what_it_shows : (h : History) → IsLegal h → ServesWhatItShows h
@@ -82,7 +89,8 @@ shows_what_it_serves h n f rows are has =
     (last_body_after h f, ap (λ b. cond b (Some (last_body_after h f)) None) (and_parts _ _ charged).0)
 
 -- the rows of a file have one digest
-one_digest : (f shown served : Bytes) (rows : List FileRow) → has_file f rows ≡ true → AllByRecursion (λ row. row.file ≡ f → row.digest ≡ shown) rows
+one_digest : (f shown served : Bytes) (rows : List FileRow) → has_file f rows ≡ true
+    → AllByRecursion (λ row. row.file ≡ f → row.digest ≡ shown) rows
     → AllByRecursion (λ row. row.file ≡ f → row.digest ≡ served) rows → shown ≡ served
 one_digest f shown served [] has one other = absurd (false≢true has)
 one_digest f shown served (row ∷ rows) has one other = elim (or_cases _ _ has) [
@@ -92,5 +100,8 @@ one_digest f shown served (row ∷ rows) has one other = elim (or_cases _ _ has)
 
 pub refutes_other_bytes : (h : History) → IsLegal h → RefutesOtherBytes h
 refutes_other_bytes h legal f bytes other rows is are differ =
-    let right = on_page h legal f bytes is in
-    (right, λ wrong. differ (one_digest f (sha256 other) (sha256 bytes) rows (right.page (project_of f) rows are ∙ same-refl (project_of f)) (wrong.digest (project_of f) rows are) (right.digest (project_of f) rows are)))
+    let right = on_page h legal f bytes is in (
+      right,
+      λ wrong. differ (one_digest f (sha256 other) (sha256 bytes) rows (right.page (project_of f) rows are ∙ same-refl (project_of f))
+          (wrong.digest (project_of f) rows are) (right.digest (project_of f) rows are)),
+    )

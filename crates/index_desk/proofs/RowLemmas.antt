@@ -44,7 +44,8 @@ module _ (h : History) (T : Tables) (stands : StandsFor T h) where
   held_found None = refl
   held_found (Some found) = refl
 
-  row_of_name : (n : Bytes) (found : NameRecord) → get T.names n ≡ Some found → is_held (Some found) ≡ true → name_row (n, found) ≡ held_row_after h n
+  row_of_name : (n : Bytes) (found : NameRecord) → get T.names n ≡ Some found → is_held (Some found) ≡ true
+      → name_row (n, found) ≡ held_row_after h n
   row_of_name n found there held = by (state_after h n) (sym (stands.names n) ∙ there)
     where
       by : (s : State) → record_of_state s (project_after h n) ≡ Some found → name_row (n, found) ≡ held_row_after h n
@@ -74,15 +75,20 @@ module _ (h : History) (T : Tables) (stands : StandsFor T h) where
       ap (λ o. option_map_or (is_undeleted_of n) o false) (stands.files f)
       ∙ charged_by n f (first_upload_after h f) (is_undeleted_after h f) (undeleted_known h f)
 
-  row_of_file : (n f : Bytes) (found : FileRecord) → get T.files f ≡ Some found → is_undeleted_of n found ≡ true → file_row_in T n (f, found) ≡ file_row_after h f
+  row_of_file : (n f : Bytes) (found : FileRecord) → get T.files f ≡ Some found → is_undeleted_of n found ≡ true
+      → file_row_in T n (f, found) ≡ file_row_after h f
   row_of_file n f found there mine = by (first_upload_after h f) refl (sym (stands.files f) ∙ there)
     where
-      by : (o : Option (Bytes × ℕ)) → first_upload_after h f ≡ o → option_map (file_of_upload f (requires_after h f) (is_undeleted_after h f)) o ≡ Some found → file_row_in T n (f, found) ≡ file_row_after h f
+      by : (o : Option (Bytes × ℕ)) → first_upload_after h f ≡ o
+          → option_map (file_of_upload f (requires_after h f) (is_undeleted_after h f)) o ≡ Some found
+          → file_row_in T n (f, found) ≡ file_row_after h f
       by None is e = cc
       by (Some first) is e =
           let found_is : file_of_upload f (requires_after h f) (is_undeleted_after h f) first ≡ found = cc in
-          let name : n ≡ project_of f = same-is n (project_of f) (ap (λ (r : FileRecord). same n r.project) found_is ∙ (and_parts _ _ mine).1) in
-          let yanked : yank_in T n (release_of f) ≡ yank_after h (project_of f) (release_of f) = stands.yanks n (release_of f) ∙ ap (λ m. yank_after h m (release_of f)) name in
+          let name : n ≡ project_of f = same-is n (project_of f)
+          (ap (λ (r : FileRecord). same n r.project) found_is ∙ (and_parts _ _ mine).1) in
+          let yanked : yank_in T n (release_of f) ≡ yank_after h (project_of f) (release_of f) =
+          stands.yanks n (release_of f) ∙ ap (λ m. yank_after h m (release_of f)) name in
           ap (λ r. file_row_in T n (f, r)) (sym found_is)
           ∙ (λ i. record {
             file = f;
@@ -102,7 +108,8 @@ module _ (h : History) (T : Tables) (stands : StandsFor T h) where
   )
 
   pub AreProjectRowsAfter-project_rows_in : (n : Bytes) → AreProjectRowsAfter h n (project_rows_in T n)
-  AreProjectRowsAfter-project_rows_in n = elim (is_held (get T.names n)) as (λ b. is_held (get T.names n) ≡ b → AreProjectRowsAfter h n (cond b (Some (file_rows_in T n)) None)) [
-    | true ↦ λ held. (sym (is_held_agrees n) ∙ held, AreFileRowsAfter-file_rows_in n)
-    | false ↦ λ free. sym (is_held_agrees n) ∙ free
-  ] refl
+  AreProjectRowsAfter-project_rows_in n = elim (is_held (get T.names n)) as (λ b. is_held (get T.names n) ≡ b
+      → AreProjectRowsAfter h n (cond b (Some (file_rows_in T n)) None)) [
+        | true ↦ λ held. (sym (is_held_agrees n) ∙ held, AreFileRowsAfter-file_rows_in n)
+        | false ↦ λ free. sym (is_held_agrees n) ∙ free
+      ] refl

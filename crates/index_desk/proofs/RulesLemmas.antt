@@ -20,7 +20,8 @@ module _ (h : History) (T : Tables) (stands : StandsFor T h) where
   pub held_rows_by_history : (rows : List NameRow) → by_tables.HeldRows T rows → by_history.HeldRows h rows
   held_rows_by_history rows is = subst (AreHeldRowsAfter h) (sym is) (AreHeldRowsAfter-held_rows_in h T stands)
 
-  pub project_rows_by_history : (name : Bytes) (rows : Option (List FileRow)) → by_tables.ProjectRows T name rows → by_history.ProjectRows h name rows
+  pub project_rows_by_history : (name : Bytes) (rows : Option (List FileRow)) → by_tables.ProjectRows T name rows
+      → by_history.ProjectRows h name rows
   project_rows_by_history name rows is = subst (AreProjectRowsAfter h name) (sym is) (AreProjectRowsAfter-project_rows_in h T stands name)
 
   pub body_by_history : (file : Bytes) (body : Option Bytes) → by_tables.Body T file body → by_history.Body h file body

@@ -9,9 +9,17 @@ use Rattle.index_rules.proofs.OwnerLists.{IsStrictlySortedBy-owners_in, list_any
 use Rattle.index_desk.specs.Standings.{IsStandingAfter, standing_of_record, standing_in}
 
 pub IsStandingAfter-standing_in : (h : History) (T : Tables) → StandsFor T h → (name : Bytes) → IsStandingAfter h name (standing_in T name)
-IsStandingAfter-standing_in h T stands name = subst (λ found. IsStandingAfter h name (standing_of_record T name found)) (sym (stands.names name)) (by (state_after h name) refl)
+IsStandingAfter-standing_in h T stands name = subst (λ found. IsStandingAfter h name (standing_of_record T name found))
+    (sym (stands.names name)) (by (state_after h name) refl)
   where
-    by : (s : State) → state_after h name ≡ s → IsStandingAfter h name (standing_of_record T name (record_of_state s (project_after h name)))
+    by : (s : State) → state_after h name ≡ s → IsStandingAfter h name
+        (standing_of_record T name (record_of_state s (project_after h name)))
     by Free is = (refl, is)
     by Prohibited is = (refl, is)
-    by Held is = (refl, is, refl, (IsStrictlySortedBy-owners_in T name, λ user. list_any-owners_in T name user ∙ stands.owners name user), stands.cases name)
+    by Held is = (
+      refl,
+      is,
+      refl,
+      (IsStrictlySortedBy-owners_in T name, λ user. list_any-owners_in T name user ∙ stands.owners name user),
+      stands.cases name,
+    )

@@ -59,7 +59,8 @@ module _ {S : Type 0} (g : Ghosts S) (old new : S) (call : Call) (answer : Answe
 
 -- a look decided on it, and the decision was settled
 module _ {S : Type 0} (g : Ghosts S) (old now new : S) (call : Call) (answer : Answer) (decision : Result Decision Stop)
-    (looked : LooksAt g old now (Ok decision) (λ T decision. HasOneBearer T → Decides decision (verdict_now T call) (effect call.at call.request (facts_in T call))))
+    (looked : LooksAt g old now (Ok decision) (λ T decision. HasOneBearer T
+    → Decides decision (verdict_now T call) (effect call.at call.request (facts_in T call))))
     (settled : (verdict : Verdict) (change : Change) → Decides decision verdict change → SettlesBy g now new verdict change answer)
     (settles : Settles g now new answer) where
   abbrev change : Change
@@ -86,7 +87,8 @@ module _ {S : Type 0} (g : Ghosts S) (old now new : S) (call : Call) (answer : A
       (record {
         unchanged = λ honest other. settles.unchanged honest other ∙ look.unchanged (settles.honest honest);
         lasts = λ clean. Lasts-earlier answer _ _ _ (λ honest. look.lasts honest (settles.clean clean)) (settles.lasts clean);
-        nothing_new = λ T left. elim (settles.nothing_new T left) [ inl was ↦ inl (look.crash T was) | inr honest ↦ inr (look.honest honest) ];
+        nothing_new = λ T left. elim (settles.nothing_new T left)
+            [ inl was ↦ inl (look.crash T was) | inr honest ↦ inr (look.honest honest) ];
         store = λ is. subst (λ n. HasFailed n (g.failures new)) look.kept (settles.store is);
         failures = subst (λ n. FailsAtMostOnce n (g.failures new)) look.kept settles.failures;
         kept = λ none. settles.kept none ∙ look.kept;
@@ -95,7 +97,8 @@ module _ {S : Type 0} (g : Ghosts S) (old now new : S) (call : Call) (answer : A
         clean = λ clean. look.clean (settles.clean clean);
       })
 
-pub takes_keep : {S : Type 0} (g : Ghosts S) (old new : S) (call : Call) (answer : Answer) → Takes g old new call answer → KeepsInvariants g old new
+pub takes_keep : {S : Type 0} (g : Ghosts S) (old new : S) (call : Call) (answer : Answer) → Takes g old new call answer
+    → KeepsInvariants g old new
 takes_keep g old new call answer took = record {
   one_bearer = λ honest one.
       let it = (took.taken honest).tables one in

@@ -1,5 +1,6 @@
 -- Which texts are a digest's, and that they read as it.
-use Rattle.std.proofs.Common.{◌≡◌, ℕ, ◌+◌, ◌*◌, ◌/◌, ◌%◌, ◌<◌, ◌==◌, ◌&&◌, zero, suc, true, false, List, [], ◌∷◌, length, slice_index, Some, None, Ok, inl, inr, refl, rules, subst, ap, ◌∙◌, arith}
+use Rattle.std.proofs.Common.{◌≡◌, ℕ, ◌+◌, ◌*◌, ◌/◌, ◌%◌, ◌<◌, ◌==◌, ◌&&◌, zero, suc, true, false, List, [], ◌∷◌, length, slice_index, Some}
+use Rattle.std.proofs.Common.{None, Ok, inl, inr, refl, rules, subst, ap, ◌∙◌, arith}
 use Rattle.std.specs.List.{list_all, list_any}
 use Rattle.std.specs.Result.{result_ok}
 use Rattle.std.proofs.lemmas.Bool.{and_parts, or_cases, eqb-true}

@@ -12,7 +12,8 @@ module _ {K R : Type 0} (takes stops : K → R → K → Type 0) where
   faulted fault.Store row a b took = (row ∷ [], [], refl, (b, took, refl))
 
   -- a fault ends it behind a row that was taken
-  pub faulted_as : (f : Fault) (end : WalkEnd) → end ≡ walk_end_of f → (row : R) (a b : K) → takes a row b → Walks {A = Unit {0}} takes stops (row ∷ []) a b (Err end)
+  pub faulted_as : (f : Fault) (end : WalkEnd) → end ≡ walk_end_of f → (row : R) (a b : K) → takes a row b
+      → Walks {A = Unit {0}} takes stops (row ∷ []) a b (Err end)
   faulted_as f end is row a b took = subst (λ e. Walks {A = Unit {0}} takes stops (row ∷ []) a b (Err e)) (sym is) (faulted f row a b took)
 
   -- a row that is not taken ends it

@@ -1,5 +1,6 @@
 -- A store that stays honest, or a failure that what went out shows.
-use Rattle.std.proofs.Common.{◌≡◌, ◌∙◌, ◌⊎◌, ℕ, Bool, true, false, inl, inr, refl, sym, length, take, le_refl, append-nil, take_all, Option, Some, None, Result, Ok, Err}
+use Rattle.std.proofs.Common.{◌≡◌, ◌∙◌, ◌⊎◌, ℕ, Bool, true, false, inl, inr, refl, sym, length, take, le_refl, append-nil, take_all, Option}
+use Rattle.std.proofs.Common.{Some, None, Result, Ok, Err}
 use Rattle.std.specs.Io.KnownBytes.{Appends, Keeps}
 use Rattle.index_rules.specs.Maps.{Bytes}
 use Rattle.index_rules.specs.Tables.{Tables}
@@ -38,15 +39,18 @@ front_sent text before after (Err OutOfMemory) sends = absurd sends
 front_sent text before after (Err (WriteFault count)) sends = (count, sends.1)
 front_sent text before after (Err (Cut count)) sends = (count, sends.1)
 
-fault_sent : (IsReply : Bytes → Type 0) (is_head by_put : Bool) (fault : Fault) (before after : Option Bytes) (result : Result (Unit {0}) IoEnd)
-    → SendsText (reply_text is_head (answer_reply by_put (answer.Fault fault))) before after result → SentBytesShowFailure IsReply before after
+fault_sent : (IsReply : Bytes → Type 0) (is_head by_put : Bool) (fault : Fault) (before after : Option Bytes)
+    (result : Result (Unit {0}) IoEnd)
+    → SendsText (reply_text is_head (answer_reply by_put (answer.Fault fault))) before after result
+    → SentBytesShowFailure IsReply before after
 fault_sent IsReply is_head by_put fault before after result sends =
     let text = reply_text is_head (answer_reply by_put (answer.Fault fault)) in
     let front = front_sent text before after result sends in
     inl (text, (is_head, by_put, fault, refl), front.0, front.1)
 
 -- a look that failed
-pub look_failed : (IsReply : Bytes → Type 0) (is_head : Bool) (fault : Fault) (before after : Option Bytes) (result : Result (Unit {0}) IoEnd)
+pub look_failed : (IsReply : Bytes → Type 0) (is_head : Bool) (fault : Fault) (before after : Option Bytes)
+    (result : Result (Unit {0}) IoEnd)
     → LookFails is_head fault before after result → SentBytesShowFailure IsReply before after
 look_failed IsReply is_head Store before after result sends = fault_sent IsReply is_head false Store before after result sends
 look_failed IsReply is_head NoMemory before after result none =
@@ -54,12 +58,17 @@ look_failed IsReply is_head NoMemory before after result none =
     inl (text, (is_head, false, Store, refl), 0, none_sent text before after none.1)
 
 -- an answer that was sent
-pub answer_lasts : (IsReply : Bytes → Type 0) (is_head by_put : Bool) (it : Answer) (Honest Honest' : Type 0) (old new : ℕ) (before after : Option Bytes) (result : Result (Unit {0}) IoEnd)
-    → Lasts it Honest Honest' → Honest → (answers_fault it ≡ false → new ≡ old) → SendsText (reply_text is_head (answer_reply by_put it)) before after result
+pub answer_lasts : (IsReply : Bytes → Type 0) (is_head by_put : Bool) (it : Answer) (Honest Honest' : Type 0) (old new : ℕ)
+    (before after : Option Bytes) (result : Result (Unit {0}) IoEnd)
+    → Lasts it Honest Honest' → Honest → (answers_fault it ≡ false → new ≡ old)
+    → SendsText (reply_text is_head (answer_reply by_put it)) before after result
     → (Honest' × (new ≡ old)) ⊎ SentBytesShowFailure IsReply before after
-answer_lasts IsReply is_head by_put answer.Accepted Honest Honest' old new before after result lasts honest kept sends = inl (lasts, kept refl)
-answer_lasts IsReply is_head by_put answer.Already Honest Honest' old new before after result lasts honest kept sends = inl (lasts honest, kept refl)
-answer_lasts IsReply is_head by_put (answer.Refused refusal) Honest Honest' old new before after result lasts honest kept sends = inl (lasts honest, kept refl)
+answer_lasts IsReply is_head by_put answer.Accepted Honest Honest' old new before after result lasts honest kept sends =
+    inl (lasts, kept refl)
+answer_lasts IsReply is_head by_put answer.Already Honest Honest' old new before after result lasts honest kept sends =
+    inl (lasts honest, kept refl)
+answer_lasts IsReply is_head by_put (answer.Refused refusal) Honest Honest' old new before after result lasts honest kept sends =
+    inl (lasts honest, kept refl)
 answer_lasts IsReply is_head by_put (answer.Fault fault) Honest Honest' old new before after result lasts honest kept sends =
     inr (fault_sent IsReply is_head by_put fault before after result sends)
 
@@ -80,9 +89,12 @@ pub less_shows : (is_head : Bool) (IsReply : Reply → Type 0) (reply : Reply) (
 less_shows is_head IsReply reply before after is less = inr (reply_text is_head reply, (reply, refl, inl is), less)
 
 -- what a look shows is the reply to its request
-pub look_lasts : (Stays : Type 0) (at : ℕ) (T : Tables) (request : HttpRequest) (body : Bytes) (before after : Option Bytes) → is_reading request.method ≡ true
-    → Stays ⊎ SentBytesShowFailure (IsTextOfLook (is_head request.method) (ShowsResource by_tables T request.fields request.resource) ⊥) before after
-    → Stays ⊎ SentBytesShowFailure (λ text. (later : Tables) × MessageGetsText by_tables ⊥ at T (Whole request body) text later) before after
+pub look_lasts : (Stays : Type 0) (at : ℕ) (T : Tables) (request : HttpRequest) (body : Bytes) (before after : Option Bytes)
+    → is_reading request.method ≡ true
+    → Stays ⊎ SentBytesShowFailure (IsTextOfLook (is_head request.method) (ShowsResource by_tables T request.fields request.resource) ⊥)
+    before after
+    → Stays ⊎ SentBytesShowFailure (λ text. (later : Tables) × MessageGetsText by_tables ⊥ at T (Whole request body) text later)
+    before after
 look_lasts Stays at T request body before after reads =
     lasts_map _ (λ text. (later : Tables) × MessageGetsText by_tables ⊥ at T (Whole request body) text later) before after
     (λ text shown. (T, (shown.0, shown.1, rw reads (shown.2, refl)))) Stays
@@ -90,7 +102,8 @@ look_lasts Stays at T request body before after reads =
 -- ---- the tables after a reply
 
 -- some tables stand, however the reply ends
-pub one_later : (IsReply : Bytes → Tables → Type 0) (Is : Tables → Type 0) (T : Tables) (Unchanged : Type 0) (before after : Option Bytes) (result : Result (Unit {0}) IoEnd)
+pub one_later : (IsReply : Bytes → Tables → Type 0) (Is : Tables
+    → Type 0) (T : Tables) (Unchanged : Type 0) (before after : Option Bytes) (result : Result (Unit {0}) IoEnd)
     → ReplyEnds (λ text. (later : Tables) × IsReply text later × Is later) Unchanged before after result
     → (later : Tables) × ReplyEnds (λ text. IsReply text later) (later ≡ T) before after result
 one_later IsReply Is T Unchanged before after (Ok done) ends = (ends.1.0, (ends.0, ends.1.1, ends.2))

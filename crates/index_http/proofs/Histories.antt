@@ -22,7 +22,8 @@ use Rattle.index_message.specs.declared.resource.Resource.TheVariants as resourc
 use Rattle.index_pages.specs.declared.served.Served.{Served}
 use Rattle.index_desk.specs.ByRules.{StandsAfter}
 use Rattle.index_http.specs.Ends.{EndsBy, ReplyEnds}
-use Rattle.index_http.specs.Exchanges.{Acts, InputGetsText, IsFaultless, MessageGetsText, RequestGetsReply, ShowsFile, ShowsName, ShowsPath, ShowsProject, ShowsResource, ShowsRoot, ShowsSpelling, call_of}
+use Rattle.index_http.specs.Exchanges.{Acts, InputGetsText, IsFaultless, MessageGetsText, RequestGetsReply, ShowsFile, ShowsName, ShowsPath}
+use Rattle.index_http.specs.Exchanges.{ShowsProject, ShowsResource, ShowsRoot, ShowsSpelling, call_of}
 use Rattle.index_http.specs.Replies.{Reply}
 use Rattle.index_http.specs.declared.connection.IoEnd.{IoEnd}
 use Rattle.index_http.specs.declared.connection.IoEnd.TheVariants.{ReadFault, OutOfMemory, WriteFault, Cut}
@@ -34,18 +35,22 @@ module _ (h : History) (T : Tables) (stands : StandsFor T h) where
   root_after None reply shows = shows
   root_after (Some served) reply shows = (shows.0, held_rows_by_history h T stands shows.0 shows.1, shows.2)
 
-  project_after : (name : Bytes) (chosen : Option Served) (reply : Reply) → ShowsProject by_tables T name chosen reply → ShowsProject by_history h name chosen reply
+  project_after : (name : Bytes) (chosen : Option Served) (reply : Reply) → ShowsProject by_tables T name chosen reply
+      → ShowsProject by_history h name chosen reply
   project_after name chosen reply shows = (shows.0, project_rows_by_history h T stands name shows.0 shows.1, shows.2)
 
-  spelling_after : (fields : List Field) (name : Bytes) (same : Bool) (reply : Reply) → ShowsSpelling by_tables T fields name same reply → ShowsSpelling by_history h fields name same reply
+  spelling_after : (fields : List Field) (name : Bytes) (same : Bool) (reply : Reply) → ShowsSpelling by_tables T fields name same reply
+      → ShowsSpelling by_history h fields name same reply
   spelling_after fields name true reply shows = (shows.0, shows.1, project_after name shows.0 reply shows.2)
   spelling_after fields name false reply shows = shows
 
-  at_after : (fields : List Field) (given : Bytes) (read : Option Bytes) (reply : Reply) → ShowsPath by_tables T fields given read reply → ShowsPath by_history h fields given read reply
+  at_after : (fields : List Field) (given : Bytes) (read : Option Bytes) (reply : Reply) → ShowsPath by_tables T fields given read reply
+      → ShowsPath by_history h fields given read reply
   at_after fields given None reply shows = shows
   at_after fields given (Some name) reply shows = spelling_after fields name (bytes_eq name given) reply shows
 
-  file_after : (file : Bytes) (is_name : Bool) (reply : Reply) → ShowsFile by_tables T file is_name reply → ShowsFile by_history h file is_name reply
+  file_after : (file : Bytes) (is_name : Bool) (reply : Reply) → ShowsFile by_tables T file is_name reply
+      → ShowsFile by_history h file is_name reply
   file_after file true reply shows = (shows.0, body_by_history h T stands file shows.0 shows.1, shows.2)
   file_after file false reply shows = shows
 
@@ -53,7 +58,8 @@ module _ (h : History) (T : Tables) (stands : StandsFor T h) where
   name_after None reply shows = shows
   name_after (Some name) reply shows = (shows.0, standing_by_history h T stands name shows.0 shows.1, shows.2)
 
-  shows_after : (fields : List Field) (asked : Resource) (reply : Reply) → ShowsResource by_tables T fields asked reply → ShowsResource by_history h fields asked reply
+  shows_after : (fields : List Field) (asked : Resource) (reply : Reply) → ShowsResource by_tables T fields asked reply
+      → ShowsResource by_history h fields asked reply
   shows_after fields resource.Simple reply shows = shows
   shows_after fields resource.Root reply shows = (shows.0, shows.1, root_after shows.0 reply shows.2)
   shows_after fields (resource.Project name) reply shows = shows
@@ -69,11 +75,13 @@ abbrev After : (History → Type 0) → Tables → Type 0
 After = StandsAfter by_history
 
 -- nothing changed
-same_after : (h : History) → IsLegal h → (T T' : Tables) → StandsFor T h → T' ≡ T → (replies : History → Type 0) → replies h → After replies T'
+same_after : (h : History) → IsLegal h → (T T' : Tables) → StandsFor T h → T' ≡ T → (replies : History → Type 0) → replies h
+    → After replies T'
 same_after h legal T T' stands same replies is =
     record { later = h; is = is; shows = (legal, subst (λ x. StandsFor x h) (sym same) stands) }
 
-acts_after : (Cause : Type 0) (h : History) → IsLegal h → (T T' : Tables) → StandsFor T h → (by_put : Bool) (call : Option Call) (reply : Reply)
+acts_after : (Cause : Type 0) (h : History) → IsLegal h → (T T' : Tables) → StandsFor T h
+    → (by_put : Bool) (call : Option Call) (reply : Reply)
     → Acts by_tables Cause by_put T call reply T' → After (Acts by_history Cause by_put h call reply) T'
 acts_after Cause h legal T T' stands by_put None reply (is, same) =
     same_after h legal T T' stands same (Acts by_history Cause by_put h None reply) (is, refl)
@@ -81,8 +89,10 @@ acts_after Cause h legal T T' stands by_put (Some call) reply (a, is, answers, n
     let on = CarriesOn-answer h legal T stands call a T' (λ _. answers) (λ _. next) in
     record { later = history_after h call a; is = (a, is, on.verdict, refl, cause); shows = (on.legal, on.stands) }
 
-request_after : (Cause : Type 0) (at : ℕ) (h : History) → IsLegal h → (T T' : Tables) → StandsFor T h → (request : HttpRequest) (body : Bytes) (reads : Bool) (reply : Reply)
-    → RequestGetsReply by_tables Cause at T request body reads reply T' → After (RequestGetsReply by_history Cause at h request body reads reply) T'
+request_after : (Cause : Type 0) (at : ℕ) (h : History) → IsLegal h → (T T' : Tables) → StandsFor T h
+    → (request : HttpRequest) (body : Bytes) (reads : Bool) (reply : Reply)
+    → RequestGetsReply by_tables Cause at T request body reads reply T'
+    → After (RequestGetsReply by_history Cause at h request body reads reply) T'
 request_after Cause at h legal T T' stands request body true reply (inl shows, same) =
     same_after h legal T T' stands same (RequestGetsReply by_history Cause at h request body true reply)
     (inl (shows_after h T stands request.fields request.resource reply shows), refl)
@@ -113,8 +123,10 @@ faultless_after at h legal T stands given text reply =
 
 -- ---- the end of a connection by the tables is that by a history for which they stood
 
-pub reply_ends_by_history : (Cause : Type 0) (at : ℕ) (h : History) → IsLegal h → (T T' : Tables) → StandsFor T h → (given before after : Option Bytes) (result : Result (Unit {0}) IoEnd)
-    → ReplyEnds (λ text. InputGetsText by_tables Cause at T given text T') (T' ≡ T) before after result → StandsAfter by_history (EndsBy by_history Cause at given before after result h) T'
+pub reply_ends_by_history : (Cause : Type 0) (at : ℕ) (h : History) → IsLegal h → (T T' : Tables) → StandsFor T h
+    → (given before after : Option Bytes) (result : Result (Unit {0}) IoEnd)
+    → ReplyEnds (λ text. InputGetsText by_tables Cause at T given text T') (T' ≡ T) before after result
+    → StandsAfter by_history (EndsBy by_history Cause at given before after result h) T'
 reply_ends_by_history Cause at h legal T T' stands given before after (Ok done) (text, is, sends) =
     let one = input_after Cause at h legal T T' stands given text is in
     record { later = one.later; is = (text, one.is, sends); shows = one.shows }

@@ -1,5 +1,6 @@
 -- The lengths of what stands in the head of a reply.
-use Rattle.std.proofs.Common.{◌≡◌, ℕ, zero, suc, ◌<◌, ◌≤◌, Bool, true, ◌&&◌, List, [], Option, Some, length, nat_le, refl, sym, subst, unwrap_or}
+use Rattle.std.proofs.Common.{◌≡◌, ℕ, zero, suc, ◌<◌, ◌≤◌, Bool, true, ◌&&◌, List, [], Option, Some, length, nat_le, refl, sym, subst}
+use Rattle.std.proofs.Common.{unwrap_or}
 use Rattle.std.proofs.lemmas.Bool.{and_parts, leb-true}
 use Rattle.std.proofs.lemmas.Bool.Decides.{Decides-below_and}
 use Rattle.http.specs.StatusCode.{reason_phrase}
@@ -18,7 +19,8 @@ short_below (suc n) = is_short (reason_phrase n) && short_below n
 pub short_reason : (status : ℕ) (phrase : List ℕ) → status < 1000 → Some phrase ≡ reason_phrase status → length phrase ≤ 64
 short_reason status phrase within is =
     let test = λ (n : ℕ). is_short (reason_phrase n) in
-    let short = (Decides-below_and test (λ n. test n ≡ true) short_below (λ n. (λ x. x, λ x. x)) refl (λ _. refl) 1000).0 refl status within in
+    let short = (Decides-below_and test (λ n. test n ≡ true) short_below (λ n. (λ x. x, λ x. x)) refl (λ _. refl) 1000).0 refl status within
+    in
     leb-true (length phrase) 64 (subst (λ (reason : Option (List ℕ)). is_short reason ≡ true) (sym is) short)
 
 length-name : (name : List ℕ) → is_project_name name ≡ true → length name ≤ 128

@@ -1,5 +1,6 @@
 -- Pages: what is known of their length, and that head and text are the reply.
-use Rattle.std.proofs.Common.{◌≡◌, ◌⊎◌, ℕ, ◌+◌, ◌≤◌, inl, inr, refl, sym, subst, ◌++◌, length, take, Option, Some, None, Result, Ok, Err, arith, length-append}
+use Rattle.std.proofs.Common.{◌≡◌, ◌⊎◌, ℕ, ◌+◌, ◌≤◌, inl, inr, refl, sym, subst, ◌++◌, length, take, Option, Some, None, Result, Ok, Err}
+use Rattle.std.proofs.Common.{arith, length-append}
 use Rattle.std.specs.Prelude.{min}
 use Rattle.std.specs.Io.KnownBytes.{Appends}
 use Rattle.std.proofs.KnownBytes.{Appends-trans}
@@ -26,7 +27,8 @@ measured None before after count is = absurd (some_is_none count is)
     some_is_none n e = cc
 measured (Some bytes) before after count (size, within) = record { bytes = bytes; is = refl; size = size; within = within }
 
-pub shows_measured : (served : Served) (page : Option Bytes) (count : ℕ) (there : IsMeasured page count) → PageShown served page (page_reply served there.bytes)
+pub shows_measured : (served : Served) (page : Option Bytes) (count : ℕ) (there : IsMeasured page count)
+    → PageShown served page (page_reply served there.bytes)
 shows_measured served page count there = subst (λ o. PageShown served o (page_reply served there.bytes)) (sym there.is) (inl refl)
 
 pub unmeasured : (page : Option Bytes) (before after : ℕ) → MeasuresPage page before after (Ok None) → page ≡ None
@@ -42,22 +44,30 @@ unmeasurable served (Some page) old new (inr long) = inl (inr (refl, long))
 
 -- ---- the text behind the head
 
-first_behind : (head page : Bytes) (count n : ℕ) (before mid after : Option Bytes) → count ≡ length head → length page ≤ most_bytes → count ≤ 512
+first_behind : (head page : Bytes) (count n : ℕ) (before mid after : Option Bytes) → count ≡ length head → length page ≤ most_bytes
+    → count ≤ 512
     → Appends before mid head → SendsFirstBytes page mid after n → SendsFirstBytes (head ++ page) before after (min (count + n) last_count)
 first_behind head page count n before mid after is within short front (least, sent) =
     let sum : min (count + n) last_count ≡ length head + n = omega (arith, is, within, short, least) in
-    rw (sum, take-append-add head page n) (rw length-append (omega (arith, least)), Appends-trans before mid after head (take n page) front sent)
+    rw (sum, take-append-add head page n) (
+      rw length-append (omega (arith, least)),
+      Appends-trans before mid after head (take n page) front sent,
+    )
 
-pub sends_behind : (head page : Bytes) (count : ℕ) (before mid after : Option Bytes) (result : Result (Unit {0}) IoEnd) → count ≡ length head → length page ≤ most_bytes → count ≤ 512
+pub sends_behind : (head page : Bytes) (count : ℕ) (before mid after : Option Bytes) (result : Result (Unit {0}) IoEnd)
+    → count ≡ length head → length page ≤ most_bytes → count ≤ 512
     → Appends before mid head → SendsText page mid after result → SendsText (head ++ page) before after (after_head count result)
 sends_behind head page count before mid after (Ok done) is within short front sends = Appends-trans before mid after head page front sends
 sends_behind head page count before mid after (Err ReadFault) is within short front sends = absurd sends
 sends_behind head page count before mid after (Err OutOfMemory) is within short front sends = absurd sends
-sends_behind head page count before mid after (Err (WriteFault n)) is within short front sends = first_behind head page count n before mid after is within short front sends
-sends_behind head page count before mid after (Err (Cut n)) is within short front sends = first_behind head page count n before mid after is within short front sends
+sends_behind head page count before mid after (Err (WriteFault n)) is within short front sends =
+    first_behind head page count n before mid after is within short front sends
+sends_behind head page count before mid after (Err (Cut n)) is within short front sends =
+    first_behind head page count n before mid after is within short front sends
 
 -- not all of the text behind the head is not all of the reply
-pub less_behind : (head page : Bytes) (before mid after : Option Bytes) → Appends before mid head → SendsLessThanText page mid after → SendsLessThanText (head ++ page) before after
+pub less_behind : (head page : Bytes) (before mid after : Option Bytes) → Appends before mid head → SendsLessThanText page mid after
+    → SendsLessThanText (head ++ page) before after
 less_behind head page before mid after front less = (
   length head + less.0,
   rw length-append (omega (arith, less.1)),
@@ -67,5 +77,6 @@ less_behind head page before mid after front less = (
 -- ---- a text that was gathered
 
 -- a page that was gathered is shown
-pub shows_gathered : (served : Served) (page : Option Bytes) (bytes : Bytes) → page ≡ Some bytes → PageShown served page (page_reply served bytes)
+pub shows_gathered : (served : Served) (page : Option Bytes) (bytes : Bytes) → page ≡ Some bytes
+    → PageShown served page (page_reply served bytes)
 shows_gathered served page bytes is = subst (λ o. PageShown served o (page_reply served bytes)) (sym is) (inl refl)

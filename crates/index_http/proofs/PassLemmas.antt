@@ -1,5 +1,6 @@
 -- The text of a page, from the walk over its rows to its end.
-use Rattle.std.proofs.Common.{◌≡◌, ℕ, [], ◌++◌, ◌∷◌, ◌<◌, ◌≤◌, ◌⊎◌, List, append_assoc, append-nil, length, take, true, false, ◌∙◌, ap, refl, subst, sym, arith, length-append, Ok, Err, inl, inr}
+use Rattle.std.proofs.Common.{◌≡◌, ℕ, [], ◌++◌, ◌∷◌, ◌<◌, ◌≤◌, ◌⊎◌, List, append_assoc, append-nil, length, take, true, false, ◌∙◌, ap}
+use Rattle.std.proofs.Common.{refl, subst, sym, arith, length-append, Ok, Err, inl, inr}
 use Rattle.std.specs.Prelude.{IfErr, OnOk, Result, Option, None, Some, Bool, is_err, option_map}
 use Rattle.std.proofs.Math.Seq.{take-append_seam}
 use Rattle.std.specs.Borrow.{MutBor}
@@ -22,13 +23,15 @@ use Rattle.index_desk.proofs.LeavesLemmas.{never_falls}
 use Rattle.index_desk.specs.Projects.{WalksProject}
 use Rattle.index_pages.specs.Rest.{Rest, IsWholeOf}
 use Rattle.index_pages.specs.Ends.{WritesPage, SinkState, count_of}
-use Rattle.index_pages.specs.States.{Begins, CountsWritten, EndsPage, IsFresh, IsFront, PageStops, PageTakes, RowTextIsTaken, StopsPage, StopsText, TextState, page_state, state_of}
+use Rattle.index_pages.specs.States.{Begins, CountsWritten, EndsPage, IsFresh, IsFront, PageStops, PageTakes, RowTextIsTaken, StopsPage}
+use Rattle.index_pages.specs.States.{StopsText, TextState, page_state, state_of}
 use Rattle.index_pages.specs.declared.end.PageEnd.{PageEnd}
 use Rattle.index_pages.specs.declared.end.PageEnd.TheVariants as page_end
 use Rattle.index_pages.specs.declared.text.PageText.{PageText}
 use Rattle.index_pages.proofs.TakerLemmas.{walks_by}
 use Rattle.index_pages.proofs.TextLemmas.{taken_of}
-use Rattle.index_http.specs.PagePasses.{EndsText, IsCutShort, IsOpen, KeepsTables, MeasuresPage, MeasuresText, SendsPage, WritesPageIn, WritesPageText, fault_in, fault_of, look_of_text, measured_by, sent_by}
+use Rattle.index_http.specs.PagePasses.{EndsText, IsCutShort, IsOpen, KeepsTables, MeasuresPage, MeasuresText, SendsPage, WritesPageIn}
+use Rattle.index_http.specs.PagePasses.{WritesPageText, fault_in, fault_of, look_of_text, measured_by, sent_by}
 use Rattle.index_http.specs.Sends.{SendsLessThanText, SendsText, is_cut, is_silent, is_write_fault}
 use Rattle.index_http.specs.Steps.{DeskStep, SinkStep, StaysHonest}
 use Rattle.index_http.specs.declared.connection.IoEnd.TheVariants.{Cut}
@@ -42,12 +45,14 @@ abbrev pub text_by : Result ℕ PageEnd → Result (Option ℕ) TextEnd
 text_by (Ok size) = Ok (Some size)
 text_by (Err end) = Err (Page end)
 
-by_page : (page : Bytes) (before after : SinkState) (ended : Result ℕ PageEnd) → WritesPage page before after ended → WritesPageText (Some page) before after (text_by ended)
+by_page : (page : Bytes) (before after : SinkState) (ended : Result ℕ PageEnd) → WritesPage page before after ended
+    → WritesPageText (Some page) before after (text_by ended)
 by_page page before after (Ok size) wrote = wrote
 by_page page before after (Err end) wrote = wrote
 
 first_sent : {R : Type 0} (rest : Rest R) (rows given left : List R) (before after : Option Bytes) (count : ℕ)
-    → rows ≡ given ++ left → IsFront rest given before after count → (count ≤ length (rest rows)) × Appends before after (take count (rest rows))
+    → rows ≡ given ++ left → IsFront rest given before after count
+    → (count ≤ length (rest rows)) × Appends before after (take count (rest rows))
 first_sent rest rows given left before after count split front =
     let more = front.begins left in
     let whole : rest rows ≡ front.bytes ++ more.0 = ap rest split ∙ more.1 in
@@ -55,8 +60,10 @@ first_sent rest rows given left before after count split front =
     let long = ap length whole ∙ length-append front.bytes more.0 in
     (omega (arith, long, front.size), rw sent front.wrote)
 
-finished_rows : {R A : Type 0} (start now : TextState R) (rows : List R) (after : SinkState) (walked : Result A WalkEnd) (ended : Result ℕ PageEnd)
-    → has_fault walked ≡ false → IsFresh start → EndsPage now after ended → StopsPage now after ended → Walks RowTextIsTaken StopsText rows start now walked
+finished_rows : {R A : Type 0} (start now : TextState R) (rows : List R) (after : SinkState) (walked : Result A WalkEnd)
+    (ended : Result ℕ PageEnd)
+    → has_fault walked ≡ false → IsFresh start → EndsPage now after ended → StopsPage now after ended
+    → Walks RowTextIsTaken StopsText rows start now walked
     → WritesPage (start.rest rows) start.sink after ended
 finished_rows start now rows after (Ok done) ended right fresh page stops took = page start rows fresh (inl took)
 finished_rows start now rows after (Err walk.Stopped) ended right fresh page stops among =
@@ -75,17 +82,21 @@ goes_on (Err walk.OutOfMemory) = false
 goes_on (Err walk.Store) = false
 
 -- a text that took its rows, or stopped at one, is finished
-pub finished : {R : Type 0} (start now : TextState R) (rows : Option (List R)) (after : SinkState) (walked : Result Bool WalkEnd) (ended : Result ℕ PageEnd)
-    → goes_on walked ≡ true → IsFresh start → EndsPage now after ended → StopsPage now after ended → WalksProject RowTextIsTaken StopsText rows start now walked
+pub finished : {R : Type 0} (start now : TextState R) (rows : Option (List R)) (after : SinkState) (walked : Result Bool WalkEnd)
+    (ended : Result ℕ PageEnd)
+    → goes_on walked ≡ true → IsFresh start → EndsPage now after ended → StopsPage now after ended
+    → WalksProject RowTextIsTaken StopsText rows start now walked
     → WritesPageText (option_map start.rest rows) start.sink after (text_by ended)
 finished start now None after (Ok found) ended there fresh page stops h = let none : found ≡ false = h.1 in cc (there, none)
 finished start now None after (Err walk.Stopped) ended there fresh page stops h = cc h.1
 finished start now None after (Err walk.OutOfMemory) ended there fresh page stops h = cc there
 finished start now None after (Err walk.Store) ended there fresh page stops h = cc there
 finished start now (Some rows) after (Ok found) ended there fresh page stops h =
-    by_page (start.rest rows) start.sink after ended (finished_rows {A = Bool} start now rows after (Ok found) ended refl fresh page stops h.0)
+    by_page (start.rest rows) start.sink after ended
+    (finished_rows {A = Bool} start now rows after (Ok found) ended refl fresh page stops h.0)
 finished start now (Some rows) after (Err walk.Stopped) ended there fresh page stops h =
-    by_page (start.rest rows) start.sink after ended (finished_rows {A = Bool} start now rows after (Err walk.Stopped) ended refl fresh page stops h.0)
+    by_page (start.rest rows) start.sink after ended
+    (finished_rows {A = Bool} start now rows after (Err walk.Stopped) ended refl fresh page stops h.0)
 finished start now (Some rows) after (Err walk.OutOfMemory) ended there fresh page stops h = cc there
 finished start now (Some rows) after (Err walk.Store) ended there fresh page stops h = cc there
 
@@ -102,47 +113,62 @@ short_of rest rows given left before after count is_open split front =
     let longer = front.begins (left ++ last) in
     let whole : rest rows ≡ front.bytes ++ more.0 = ap rest split ∙ more.1 in
     let long = ap length whole ∙ length-append front.bytes more.0 in
-    let rows_on : rest (rows ++ last) ≡ front.bytes ++ longer.0 = ap (λ l. rest (l ++ last)) split ∙ ap rest (append_assoc given left last) ∙ longer.1 in
+    let rows_on : rest (rows ++ last) ≡ front.bytes ++ longer.0 =
+    ap (λ l. rest (l ++ last)) split ∙ ap rest (append_assoc given left last) ∙ longer.1 in
     let some = some_left more.0 (λ none.
     let all : rest rows ≡ front.bytes = whole ∙ ap (λ x. front.bytes ++ x) none ∙ append-nil front.bytes in
     is_open.grows rows longer.0 (rows_on ∙ ap (λ x. x ++ longer.0) (sym all))) in
     omega (arith, long, front.size, some)
 
-cut_rows : {R : Type 0} (start now : TextState R) (rows given left : List R) (count : ℕ) → IsOpen start.rest → IsFresh start → CountsWritten now count
+cut_rows : {R : Type 0} (start now : TextState R) (rows given left : List R) (count : ℕ) → IsOpen start.rest → IsFresh start
+    → CountsWritten now count
     → rows ≡ given ++ left → Took RowTextIsTaken given start now → IsCutShort (start.rest rows) start.sink now.sink count
 cut_rows start now rows given left count is_open fresh counts split took =
     let taken = taken_of given start now fresh.ongoing took in
     let front = counts.front start given fresh (inl took) in
     let first = first_sent start.rest rows given left start.sink.contents now.sink.contents now.written split front in
     let short = short_of start.rest rows given left start.sink.contents now.sink.contents now.written is_open split front in
-    record { wrote = rw counts.count first.1; within = rw counts.count short; steady = counts.steady start given fresh (inl took) taken.ongoing }
+    record {
+      wrote = rw counts.count first.1;
+      within = rw counts.count short;
+      steady = counts.steady start given fresh (inl took) taken.ongoing;
+    }
 
 -- a fault ended the walk, and the text is let go
 pub cut : {R : Type 0} (start now : TextState R) (rows : Option (List R)) (walked : Result Bool WalkEnd) (told : Fault) (count : ℕ)
-    → has_fault walked ≡ true → IsOpen start.rest → IsFresh start → CountsWritten now count → WalksProject RowTextIsTaken StopsText rows start now walked
+    → has_fault walked ≡ true → IsOpen start.rest → IsFresh start → CountsWritten now count
+    → WalksProject RowTextIsTaken StopsText rows start now walked
     → WritesPageText (option_map start.rest rows) start.sink now.sink (Err (Walk told count))
-cut start now None walked told count faulty is_open fresh counts h = (counts.count ∙ ap (λ s. s.written) h.0 ∙ fresh.none, ap (λ s. s.sink) h.0)
+cut start now None walked told count faulty is_open fresh counts h =
+    (counts.count ∙ ap (λ s. s.written) h.0 ∙ fresh.none, ap (λ s. s.sink) h.0)
 cut start now (Some rows) (Ok found) told count faulty is_open fresh counts h = cc faulty
 cut start now (Some rows) (Err walk.Stopped) told count faulty is_open fresh counts h = cc faulty
-cut start now (Some rows) (Err walk.OutOfMemory) told count faulty is_open fresh counts h = let front = h.0 in cut_rows start now rows front.0 front.1 count is_open fresh counts front.2 front.3
-cut start now (Some rows) (Err walk.Store) told count faulty is_open fresh counts h = let front = h.0 in cut_rows start now rows front.0 front.1 count is_open fresh counts front.2 front.3
+cut start now (Some rows) (Err walk.OutOfMemory) told count faulty is_open fresh counts h = let front = h.0 in
+    cut_rows start now rows front.0 front.1 count is_open fresh counts front.2 front.3
+cut start now (Some rows) (Err walk.Store) told count faulty is_open fresh counts h = let front = h.0 in
+    cut_rows start now rows front.0 front.1 count is_open fresh counts front.2 front.3
 
 -- ---- a text that is written from its beginning
 
-text_walks : {K P T X : Type 0} (out : Outs K) (rest : P → Bytes → Rest X) (rows : Option (List X)) (text now : PageText K P T) (walked : Result Bool WalkEnd)
+text_walks : {K P T X : Type 0} (out : Outs K) (rest : P → Bytes
+    → Rest X) (rows : Option (List X)) (text now : PageText K P T) (walked : Result Bool WalkEnd)
     → WalksProject (PageTakes out rest) (PageStops out rest) rows text now walked
-    → (now.sink.ghost_name ≡ text.sink.ghost_name) × WalksProject RowTextIsTaken StopsText rows (page_state out rest text) (page_state out rest now) walked
+    → (now.sink.ghost_name ≡ text.sink.ghost_name)
+    × WalksProject RowTextIsTaken StopsText rows (page_state out rest text) (page_state out rest now) walked
 text_walks out rest None text now walked h = (ap (λ t. t.sink.ghost_name) h.0, (ap (page_state out rest) h.0, h.1))
 text_walks out rest (Some rows) text now walked h =
-    let by = walks_by (PageTakes out rest) (PageStops out rest) RowTextIsTaken StopsText (page_state out rest) (λ t. t.sink.ghost_name) (λ before row after it. it) (λ before row after it. it) rows text now walked h.0 in
+    let by = walks_by (PageTakes out rest) (PageStops out rest) RowTextIsTaken StopsText (page_state out rest) (λ t. t.sink.ghost_name)
+    (λ before row after it. it) (λ before row after it. it) rows text now walked h.0 in
     (by.0, (by.1, h.1))
 
-same_page : {R : Type 0} (rest whole : Rest R) (rows : Option (List R)) → IsWholeOf rest whole → option_map rest rows ≡ option_map whole rows
+same_page : {R : Type 0} (rest whole : Rest R) (rows : Option (List R)) → IsWholeOf rest whole
+    → option_map rest rows ≡ option_map whole rows
 same_page rest whole None is = refl
 same_page rest whole (Some rows) is = ap Some (is rows)
 
 -- a page of these rows is written to this sink
-pub written : {K P T X : Type 0} (out : Outs K) (rest : P → Bytes → Rest X) (whole : Rest X) (rows : Option (List X)) (text now : PageText K P T) (into : MutBor K) (after : K)
+pub written : {K P T X : Type 0} (out : Outs K) (rest : P → Bytes
+    → Rest X) (whole : Rest X) (rows : Option (List X)) (text now : PageText K P T) (into : MutBor K) (after : K)
     (walked : Result Bool WalkEnd) (result : Result (Option ℕ) TextEnd)
     → IsOpen (page_state out rest text).rest → Begins out rest text into whole → EndsText out rest now after walked result
     → WalksProject (PageTakes out rest) (PageStops out rest) rows text now walked
@@ -176,7 +202,8 @@ right (Err walk.Stopped) none = refl
 right (Err walk.OutOfMemory) none = cc none
 right (Err walk.Store) none = cc none
 
-kept : {A : Type 0} (walked : Result A WalkEnd) (result : Result (Option ℕ) TextEnd) (Kept : Type 0) → fault_in result ≡ fault_of walked → (has_fault walked ≡ false → Kept) → OnOk (look_of_text result) Kept
+kept : {A : Type 0} (walked : Result A WalkEnd) (result : Result (Option ℕ) TextEnd) (Kept : Type 0) → fault_in result ≡ fault_of walked
+    → (has_fault walked ≡ false → Kept) → OnOk (look_of_text result) Kept
 kept walked (Ok size) Kept same keeps = keeps (right walked (sym same))
 kept walked (Err (Walk fault count)) Kept same keeps = tt
 kept walked (Err (Page end)) Kept same keeps = keeps (right walked (sym same))
@@ -190,7 +217,8 @@ told (Err walk.Stopped) (Err (Walk fault count)) Cause same causes = cc same
 told (Err walk.OutOfMemory) (Err (Walk fault count)) Cause same causes = λ is. cc (same, is)
 told (Err walk.Store) (Err (Walk fault count)) Cause same causes = λ is. causes refl
 
-by_store : {A : Type 0} (walked : Result A WalkEnd) (result : Result (Option ℕ) TextEnd) → fault_in result ≡ fault_of walked → ends_by_store walked ≡ fails_by_store (look_of_text result)
+by_store : {A : Type 0} (walked : Result A WalkEnd) (result : Result (Option ℕ) TextEnd) → fault_in result ≡ fault_of walked
+    → ends_by_store walked ≡ fails_by_store (look_of_text result)
 by_store (Ok done) (Ok size) same = refl
 by_store (Ok done) (Err (Walk fault count)) same = cc same
 by_store (Ok done) (Err (Page end)) same = refl
@@ -205,7 +233,8 @@ by_store (Err walk.Store) (Err (Walk told count)) same = let e : told ≡ fault.
 by_store (Err walk.Store) (Err (Page end)) same = cc same
 
 -- the look at the tables of a walk
-pub reads : {S A : Type 0} (g : Ghosts S) (old new : S) (walked : Result A WalkEnd) (result : Result (Option ℕ) TextEnd) → fault_in result ≡ fault_of walked
+pub reads : {S A : Type 0} (g : Ghosts S) (old new : S) (walked : Result A WalkEnd) (result : Result (Option ℕ) TextEnd)
+    → fault_in result ≡ fault_of walked
     → WalksTables g old new walked → ReadsTables g old new (look_of_text result)
 reads g old new walked result same look = record {
   unchanged = look.unchanged;
@@ -241,7 +270,13 @@ keeps g old new read has_fault same look = record {
 
 -- so a pass leaves them
 pub keeps_leaves : {S : Type 0} (g : Ghosts S) (old new : S) (has_fault : Bool) → KeepsTables g old new has_fault → LeavesTables g old new
-keeps_leaves g old new has_fault it = record { unchanged = it.unchanged; honest = it.honest; clean = it.clean; crash = it.crash; counted = it.counted }
+keeps_leaves g old new has_fault it = record {
+  unchanged = it.unchanged;
+  honest = it.honest;
+  clean = it.clean;
+  crash = it.crash;
+  counted = it.counted;
+}
 
 is_measured : (result : Result (Option ℕ) TextEnd) → is_err (measured_by result) ≡ false → is_err (look_of_text result) ≡ false
 is_measured (Ok size) ok = refl
@@ -249,7 +284,8 @@ is_measured (Err (Walk fault count)) ok = cc ok
 is_measured (Err (Page end)) ok = refl
 
 measured_text : (pages : Option Bytes) (before after : SinkState) (old new : ℕ) (result : Result (Option ℕ) TextEnd)
-    → IfErr (look_of_text result) (λ told. told ≡ fault.Store → HasFailed old new) → WritesPageText pages before after result → MeasuresPage pages old new (measured_by result)
+    → IfErr (look_of_text result) (λ told. told ≡ fault.Store → HasFailed old new) → WritesPageText pages before after result
+    → MeasuresPage pages old new (measured_by result)
 measured_text None before after old new (Ok size) store wrote = wrote.0
 measured_text None before after old new (Err (Walk fault.OutOfMemory count)) store wrote = tt
 measured_text None before after old new (Err (Walk fault.Store count)) store wrote = store refl
@@ -262,7 +298,8 @@ measured_text (Some page) before after old new (Err (Page (page_end.OutOfMemory 
 measured_text (Some page) before after old new (Err (Page (page_end.Store count))) store wrote = inr (wrote.past count refl)
 measured_text (Some page) before after old new (Err (Page (page_end.WriteFault count))) store wrote = tt
 
-stores_kept : (result : Result (Option ℕ) TextEnd) (old new : ℕ) → CountsStoreFault old new (fails_by_store (look_of_text result)) → measured_by result ≡ Err fault.OutOfMemory → new ≡ old
+stores_kept : (result : Result (Option ℕ) TextEnd) (old new : ℕ) → CountsStoreFault old new (fails_by_store (look_of_text result))
+    → measured_by result ≡ Err fault.OutOfMemory → new ≡ old
 stores_kept (Ok size) old new counts is = counts
 stores_kept (Err (Walk told count)) old new counts is = let e : told ≡ fault.OutOfMemory = cc is in rw e at counts
 stores_kept (Err (Page end)) old new counts is = counts
@@ -271,7 +308,8 @@ stores_kept (Err (Page end)) old new counts is = counts
 pub measures : {S K : Type 0} (page_of : Tables → Option Bytes) (desk : DeskStep S) (sink : SinkStep K) (result : Result (Option ℕ) TextEnd)
     → WritesPageIn page_of desk sink result → MeasuresText desk.books desk.old desk.new (measured_by result) page_of
 measures page_of desk sink result wrote = record {
-  measured = λ honest clean. measured_text (page_of (desk.books.tables desk.old)) _ _ _ _ result wrote.look.store (wrote.written honest clean);
+  measured = λ honest clean. measured_text (page_of (desk.books.tables desk.old)) _ _ _ _ result wrote.look.store
+      (wrote.written honest clean);
   keeps = keeps desk.books desk.old desk.new (look_of_text result) _ (is_measured result) wrote.look;
   stores = stores_kept result _ _ wrote.look.stores;
 }
@@ -328,11 +366,13 @@ is_sent (Err (Page end)) ok = refl
 
 less : {S K : Type 0} (page_of : Tables → Option Bytes) (desk : DeskStep S) (sink : SinkStep K) (result : Result (Option ℕ) TextEnd)
     → WritesPageIn page_of desk sink result → desk.books.IsHonest desk.old → desk.books.IsClean desk.new → StaysHonest desk
-    ⊎ ((page : Bytes) → page_of (desk.books.tables desk.old) ≡ Some page → SendsLessThanText page (sink.out.contents sink.old) (sink.out.contents sink.new))
+    ⊎ ((page : Bytes) → page_of (desk.books.tables desk.old) ≡ Some page
+    → SendsLessThanText page (sink.out.contents sink.old) (sink.out.contents sink.new))
 less page_of desk sink (Ok size) wrote honest clean = inl (wrote.look.lasts honest clean, wrote.look.kept)
 less page_of desk sink (Err (Page end)) wrote honest clean = inl (wrote.look.lasts honest clean, wrote.look.kept)
 less page_of desk sink (Err (Walk fault count)) wrote honest clean =
-    inr (λ page is. let short = subst (λ p. WritesPageText p (state_of sink.out sink.old) (state_of sink.out sink.new) (Err (Walk fault count))) is (wrote.written honest clean) in
+    inr (λ page is. let short = subst (λ p. WritesPageText p (state_of sink.out sink.old) (state_of sink.out sink.new)
+    (Err (Walk fault count))) is (wrote.written honest clean) in
     (count, short.within, short.wrote))
 
 -- the second pass
@@ -343,8 +383,10 @@ sends page_of desk sink result wrote =
     let after = state_of sink.out sink.new in
     let given = wrote.given in
     record {
-      sent = λ honest clean page is. sent_text page before after result (subst (λ p. WritesPageText p before after result) is (wrote.written honest clean));
-      none = λ honest clean is. none_sent before after result (subst (λ p. WritesPageText p before after result) is (wrote.written honest clean));
+      sent = λ honest clean page is. sent_text page before after result
+          (subst (λ p. WritesPageText p before after result) is (wrote.written honest clean));
+      none = λ honest clean is. none_sent before after result
+          (subst (λ p. WritesPageText p before after result) is (wrote.written honest clean));
       sends = record {
         write_fault = failed given.0 before after result given.1;
         writes = steady given.0 before after result given.1;
@@ -357,7 +399,8 @@ sends page_of desk sink result wrote =
     }
 
 -- what was sent whole to a sink with nothing in it is what it has
-pub gathered : (pages : Option Bytes) (before after : SinkState) (size : ℕ) (had has : Bytes) → before.contents ≡ Some had → had ≡ [] → after.contents ≡ Some has
+pub gathered : (pages : Option Bytes) (before after : SinkState) (size : ℕ) (had has : Bytes) → before.contents ≡ Some had → had ≡ []
+    → after.contents ≡ Some has
     → WritesPageText pages before after (Ok (Some size)) → pages ≡ Some has
 gathered None before after size had has nothing none all wrote = cc wrote.0
 gathered (Some page) before after size had has nothing none all wrote =

@@ -29,9 +29,11 @@ no_page false b is_head page none = refl
 no_page true b is_head page none = rw (page refl) at none
 
 -- a look, and then the reply that it leads to
-pub found_and_sent : {S K : Type 0} (g : Ghosts S) (old mid new : S) (sink : SinkStep K) (is_head is_page : Bool) (what : ToShow) (IsReply : Tables → Reply → Type 0)
+pub found_and_sent : {S K : Type 0} (g : Ghosts S) (old mid new : S) (sink : SinkStep K) (is_head is_page : Bool) (what : ToShow)
+    (IsReply : Tables → Reply → Type 0)
     (result : Result (Unit {0}) IoEnd) → LooksAt g old mid (Ok what) (λ T what. LeadsTo T what (IsReply T))
-    → LookShows (look_for is_head what) (λ T. ReplyShowsFound T what) (at_desk g mid new) sink result → (is_page_to_show what ≡ true → is_page ≡ true)
+    → LookShows (look_for is_head what) (λ T. ReplyShowsFound T what) (at_desk g mid new) sink result
+    → (is_page_to_show what ≡ true → is_page ≡ true)
     → LookShows (record { is_page = is_page; is_head = is_head }) IsReply (at_desk g old new) sink result
 found_and_sent g old mid new sink is_head is_page what IsReply result looks shows page = record {
   shown = λ honest clean.
@@ -47,7 +49,8 @@ found_and_sent g old mid new sink is_head is_page what IsReply result looks show
   stores = λ is. shows.stores is ∙ looks.look.stores;
   lasts = λ honest clean.
       let then = looks.look.lasts honest (shows.leaves.clean clean) in
-      lasts_map _ _ _ _ (shown_map is_head _ _ ⊥ (looks.found then)) _ (rw (looks.look.unchanged then, looks.look.kept) at (shows.lasts then clean));
+      lasts_map _ _ _ _ (shown_map is_head _ _ ⊥ (looks.found then)) _
+      (rw (looks.look.unchanged then, looks.look.kept) at (shows.lasts then clean));
 }
 
 -- the page of a project, or that there is none
@@ -55,6 +58,7 @@ pub project_shown : (served : Served) (T : Tables) (name : Bytes) (reply : Reply
     → ShowsProject by_tables T name (Some served) reply
 project_shown served T name reply shows = (project_rows_in T name, refl, which (project_rows_in T name) shows)
   where
-    which : (rows : Option (List FileRow)) → PageShown served (option_map (project_page_of served name) rows) reply → ShowsRows name (Some served) rows reply
+    which : (rows : Option (List FileRow)) → PageShown served (option_map (project_page_of served name) rows) reply
+        → ShowsRows name (Some served) rows reply
     which None shows = shows
     which (Some rows) shows = shows

@@ -1,5 +1,6 @@
 -- The bytes of pieces, cut at a piece.
-use Rattle.std.proofs.Common.{◌≡◌, ℕ, ◌+◌, ◌<◌, ◌≤◌, List, ◌∷◌, ◌++◌, length, take, drop, get_or, Bor, sym, ◌∙◌, ap, arith, add-one, length-append}
+use Rattle.std.proofs.Common.{◌≡◌, ℕ, ◌+◌, ◌<◌, ◌≤◌, List, ◌∷◌, ◌++◌, length, take, drop, get_or, Bor, sym, ◌∙◌, ap, arith, add-one}
+use Rattle.std.proofs.Common.{length-append}
 use Rattle.std.proofs.lemmas.List.{take-append-le, take-append-drop}
 use Rattle.std.proofs.lemmas.Grind.{flat_map-append}
 use Rattle.std.proofs.Math.Seq.{take-append-add, drop-cons}
@@ -14,7 +15,8 @@ joined-cut pieces i none within =
     ∙ flat_map-append (λ (piece : Bor (List ℕ)). piece.now) (take i pieces) (get_or pieces i none ∷ drop (i + 1) pieces)
 
 -- the first bytes of a piece are the last of those that went out
-pub take-joined : (pieces : List (Bor (List ℕ))) (i count : ℕ) (none : Bor (List ℕ)) → i < length pieces → count ≤ length (get_or pieces i none).now
+pub take-joined : (pieces : List (Bor (List ℕ))) (i count : ℕ) (none : Bor (List ℕ)) → i < length pieces
+    → count ≤ length (get_or pieces i none).now
     → take (length (joined (take i pieces)) + count) (joined pieces) ≡ joined (take i pieces) ++ take count (get_or pieces i none).now
 take-joined pieces i count none within few =
     let before = joined (take i pieces) in

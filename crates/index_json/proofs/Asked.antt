@@ -1,5 +1,6 @@
 -- What is read of bytes is what they say.
-use Rattle.std.proofs.Common.{◌≡◌, ◌∙◌, ◌+◌, ◌-◌, ◌==◌, ◌≤◌, ◌<◌, ℕ, Bool, true, false, List, Option, Some, None, refl, sym, subst, ap, arith, codes}
+use Rattle.std.proofs.Common.{◌≡◌, ◌∙◌, ◌+◌, ◌-◌, ◌==◌, ◌≤◌, ◌<◌, ℕ, Bool, true, false, List, Option, Some, None, refl, sym, subst, ap}
+use Rattle.std.proofs.Common.{arith, codes}
 use Rattle.std.specs.Prelude.{if◌then◌else◌, bytes_eq, option_and_then}
 use Rattle.std.proofs.lemmas.Bool.Decides.{nat_tests}
 use Rattle.std.proofs.lemmas.Option.{cond_some, none-some}
@@ -41,7 +42,8 @@ is_zero : (n : ℕ) → (n == 0) ≡ true → n ≡ 0
 is_zero n is = grind (arith, nat_tests)
 
 -- a call has two keys more than its request, and neither of them is a request's
-two_more : (at : ℕ) (token : List ℕ) (request : Request) → distinct_key_count (members_at at token request) ≡ distinct_key_count (members_of request) + 2
+two_more : (at : ℕ) (token : List ℕ) (request : Request)
+    → distinct_key_count (members_at at token request) ≡ distinct_key_count (members_of request) + 2
 two_more at token (Claim name) = refl
 two_more at token request = refl
 
@@ -91,7 +93,8 @@ standing_read value asked at_do (Some name) is h =
 
 call_read : (value : Data) (asked : Line) (word : List ℕ) → text_at (codes "do") value ≡ Some word
     → (a : Option ℕ) (b : Option (List ℕ)) (c : Option (Request × Object))
-    → number_at (codes "at") value ≡ a → text_at (codes "token") value ≡ b → request_on_user word (left_of value (key_count value - 1 - 1 - 1)) ≡ c
+    → number_at (codes "at") value ≡ a → text_at (codes "token") value ≡ b
+    → request_on_user word (left_of value (key_count value - 1 - 1 - 1)) ≡ c
     → option_and_then if_whole (call_row word (behind_word value)) ≡ Some asked → IsLine value asked
 call_read value asked word at_do None b c at_at at_token row h = absurd (none-some asked (rw at_at at h))
 call_read value asked word at_do (Some at) None c at_at at_token row h = absurd (none-some asked (rw (at_at, at_token) at h))
@@ -105,7 +108,10 @@ call_read value asked word at_do (Some at) (Some token) (Some (request, after)) 
     subst (IsLine value) parts.1 (
       token,
       refl,
-      record { each = (at_at, (at_token, it.each)); no_more = subst (λ (n : ℕ). key_count value ≤ n) (sym (two_more at token request)) few },
+      record {
+        each = (at_at, (at_token, it.each));
+        no_more = subst (λ (n : ℕ). key_count value ≤ n) (sym (two_more at token request)) few;
+      },
     )
 
 line_of_word : (value : Data) (asked : Line) (word : List ℕ) → text_at (codes "do") value ≡ Some word

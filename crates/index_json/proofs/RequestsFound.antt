@@ -7,7 +7,9 @@ use Rattle.index_retention.specs.declared.attempts.CaseKind.TheVariants.{Continu
 use Rattle.index_retention.specs.declared.attempts.Means.{Means}
 use Rattle.index_retention.specs.declared.attempts.Means.TheVariants.{Profile, Author, Pages}
 use Rattle.index_rules.specs.declared.call.Request.{Request}
-use Rattle.index_rules.specs.declared.call.Request.TheVariants.{AddUser, SetToken, SetQuota, Claim, AddOwner, RemoveOwner, Upload, Delete, BanFile, Yank, Unyank, Relinquish, Prohibit, Allow, OpenCase, RecordAttempt, Transfer, CloseCase, AnswerCase}
+use Rattle.index_rules.specs.declared.call.Request.TheVariants.{AddUser, SetToken, SetQuota, Claim, AddOwner, RemoveOwner, Upload, Delete}
+use Rattle.index_rules.specs.declared.call.Request.TheVariants.{BanFile, Yank, Unyank, Relinquish, Prohibit, Allow, OpenCase, RecordAttempt}
+use Rattle.index_rules.specs.declared.call.Request.TheVariants.{Transfer, CloseCase, AnswerCase}
 use Rattle.index_json.specs.Json.{text_at}
 use Rattle.index_json.specs.Keys.{distinct_key_count, members_of, means_text, SaysEach}
 use Rattle.index_json.specs.Object.{Object}
@@ -54,7 +56,8 @@ none_5 : (n : ℕ) → n ≤ 5 → n - 1 - 1 - 1 - 1 - 1 ≡ 0
 none_5 n few = omega (arith, few)
 
 -- each request, by its keys in the order in which its row is read
-pub found : (asked : Request) (value : Data) (left : ℕ) → SaysEach value (members_of asked) → left ≤ distinct_key_count (members_of asked) - 1
+pub found : (asked : Request) (value : Data) (left : ℕ) → SaysEach value (members_of asked)
+    → left ≤ distinct_key_count (members_of asked) - 1
     → Found value left asked
 found (AddUser user office token) value left keys few = record {
   word = codes "add_user";

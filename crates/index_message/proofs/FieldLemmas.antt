@@ -1,5 +1,6 @@
 -- The values of a field, one field after another.
-use Rattle.std.proofs.Common.{◌≡◌, ◌<◌, ◌+◌, ◌∷◌, [], ◌++◌, map, drop, get_or, length, ℕ, List, Option, Some, None, Bor, is_some, true, refl, ◌∙◌}
+use Rattle.std.proofs.Common.{◌≡◌, ◌<◌, ◌+◌, ◌∷◌, [], ◌++◌, map, drop, get_or, length, ℕ, List, Option, Some, None, Bor, is_some, true}
+use Rattle.std.proofs.Common.{refl, ◌∙◌}
 use Rattle.std.proofs.lemmas.List.{drop_more}
 use Rattle.httparse.specs.Spans.{header_bytes, span_bytes}
 use Rattle.httparse.specs.declared.spans.HeaderSpan.{HeaderSpan}
@@ -15,7 +16,8 @@ abbrev pub values_from : List ℕ → List ℕ → List HeaderSpan → ℕ → L
 values_from name bytes fields i = values_of name (map (header_bytes bytes) (drop i fields))
 
 -- a field with the name stands behind one that was found
-pub found_again : (name bytes : List ℕ) (fields : List HeaderSpan) (i : ℕ) (d : HeaderSpan) (found : Option (Bor (List ℕ))) (all : List (List ℕ))
+pub found_again : (name bytes : List ℕ) (fields : List HeaderSpan) (i : ℕ) (d : HeaderSpan) (found : Option (Bor (List ℕ)))
+    (all : List (List ℕ))
     → i < length fields → all ≡ found_values found ++ values_from name bytes fields i
     → is_named name (header_bytes bytes (get_or fields i d)) ≡ true → is_some found ≡ true
     → (first second : List ℕ) × (more : List (List ℕ)) × (all ≡ first ∷ second ∷ more)

@@ -3,12 +3,14 @@ use Rattle.std.proofs.lemmas.Str.{IsUtf8-from_ascii}
 use Rattle.httparse.proofs.OnLiterals.{httparse_on_literals}
 use Rattle.std.proofs.lemmas.List.Elements.{All-cons, All-nil}
 use Rattle.std.proofs.lemmas.Bool.{cases_Bool, eqb-true}
-use Rattle.std.proofs.Common.{All, IsAscii, IsTrue, zero, suc, inl, inr, nat_eq, refl, codes, ◌≡◌, ℕ, ◌<◌, List, [], ◌∷◌, ◌++◌, length, take, drop, sym, ◌∙◌, ap, arith, length-append}
+use Rattle.std.proofs.Common.{All, IsAscii, IsTrue, zero, suc, inl, inr, nat_eq, refl, codes, ◌≡◌, ℕ, ◌<◌, List, [], ◌∷◌, ◌++◌, length}
+use Rattle.std.proofs.Common.{take, drop, sym, ◌∙◌, ap, arith, length-append}
 use Rattle.std.specs.Prelude.{◌⊎◌, ◌&&◌}
 use Rattle.std.specs.List.{starts_with}
 use Rattle.std.proofs.lemmas.List.{append_assoc, take-append-le, take-append-drop}
 use Rattle.std.proofs.Math.Seq.{take-append_seam}
-use Rattle.httparse.specs.Grammar.{IsRequestHead, RequestHead, print_request, HasNoRequest, MayBecomeRequest, AllPass, is_token_byte, is_uri_byte, lf}
+use Rattle.httparse.specs.Grammar.{IsRequestHead, RequestHead, print_request, HasNoRequest, MayBecomeRequest, AllPass, is_token_byte}
+use Rattle.httparse.specs.Grammar.{is_uri_byte, lf}
 use Rattle.index_message.specs.Heads.{HasNoHead}
 use Rattle.index_message.specs.Messages.{begins_with_head}
 
@@ -58,7 +60,8 @@ may_nothing = inl (
 pub none_by_limit : (bytes rest : List ℕ) → length bytes ≡ 16384 → HasNoRequest bytes → HasNoHead (bytes ++ rest)
 none_by_limit bytes rest full none h q x =
     let front : take (length (print_request h)) bytes ≡ print_request h =
-    sym (take-append-le (length (print_request h)) bytes rest (omega (arith, x.short))) ∙ ap (take (length (print_request h))) x.reads.1 ∙ take-append_seam (print_request h) q in
+    sym (take-append-le (length (print_request h)) bytes rest (omega (arith, x.short))) ∙ ap (take (length (print_request h))) x.reads.1
+    ∙ take-append_seam (print_request h) q in
     none h (drop (length (print_request h)) bytes)
     (x.reads.0, sym (take-append-drop (length (print_request h)) bytes) ∙ ap (λ a. a ++ drop (length (print_request h)) bytes) front)
 
@@ -66,7 +69,8 @@ none_by_limit bytes rest full none h q x =
 
 -- what follows these bytes does not tell whether they begin with this text, or they are a front of it
 pub decided : (text bytes : List ℕ)
-    → ((rest : List ℕ) → starts_with nat_eq (bytes ++ rest) text ≡ starts_with nat_eq bytes text) ⊎ ((more : List ℕ) × (text ≡ bytes ++ more))
+    → ((rest : List ℕ) → starts_with nat_eq (bytes ++ rest) text ≡ starts_with nat_eq bytes text)
+    ⊎ ((more : List ℕ) × (text ≡ bytes ++ more))
 decided [] bytes = inl (λ rest. refl)
 decided (c ∷ text) [] = inr (c ∷ text, refl)
 decided (c ∷ text) (b ∷ bytes) = elim (cases_Bool (nat_eq c b)) [
@@ -74,7 +78,8 @@ decided (c ∷ text) (b ∷ bytes) = elim (cases_Bool (nat_eq c b)) [
     | inl tells ↦ inl (λ rest. ap (λ so. nat_eq c b && so) (tells rest))
     | inr front ↦ inr (front.0, let is = eqb-true c b same in let e = front.1 in cc)
   ]
-  | inr other ↦ inl (λ rest. ap (λ so. so && starts_with nat_eq (bytes ++ rest) text) other ∙ sym (ap (λ so. so && starts_with nat_eq bytes text) other))
+  | inr other ↦ inl (λ rest. ap (λ so. so && starts_with nat_eq (bytes ++ rest) text) other
+      ∙ sym (ap (λ so. so && starts_with nat_eq bytes text) other))
 ]
 
 -- a byte of a method before others
@@ -88,7 +93,11 @@ head_of_head = record { blank = []; method = codes "HEAD"; target = codes "x"; m
 is_head_of_head : IsRequestHead head_of_head
 unfolding httparse_on_literals
 is_head_of_head = record {
-  method = (omega arith, token 72 (codes "EAD") refl (token 69 (codes "AD") refl (token 65 (codes "D") refl (token 68 [] refl (All-nil (λ b. IsTrue (is_token_byte b)))))));
+  method = (
+    omega arith,
+    token 72 (codes "EAD") refl
+        (token 69 (codes "AD") refl (token 65 (codes "D") refl (token 68 [] refl (All-nil (λ b. IsTrue (is_token_byte b)))))),
+  );
   target = (omega arith, all_one (λ b. IsTrue (is_uri_byte b)) 120 refl);
   target_text = IsUtf8-from_ascii (codes "x") ascii_x;
   minor = omega arith;
@@ -101,10 +110,15 @@ unfolding httparse_on_literals
 may_come bytes more is never =
     let behind = codes "x HTTP/1.0\n\n" in
     never (more ++ behind) head_of_head []
-    (record { reads = (is_head_of_head, sym (append_assoc bytes more behind) ∙ ap (λ front. front ++ behind) (sym is)); short = omega arith; few = omega arith })
+    (record {
+      reads = (is_head_of_head, sym (append_assoc bytes more behind) ∙ ap (λ front. front ++ behind) (sym is));
+      short = omega arith;
+      few = omega arith;
+    })
 
 -- whether an input without a head begins with the method `HEAD` is told by the bytes that came: none can follow that make them a head
-pub method_when_never : (bytes left : List ℕ) → ((more : List ℕ) → HasNoHead (bytes ++ more)) → begins_with_head (bytes ++ left) ≡ begins_with_head bytes
+pub method_when_never : (bytes left : List ℕ) → ((more : List ℕ) → HasNoHead (bytes ++ more))
+    → begins_with_head (bytes ++ left) ≡ begins_with_head bytes
 method_when_never bytes left never = elim (decided (codes "HEAD ") bytes) [
   | inl tells ↦ tells left
   | inr front ↦ absurd (may_come bytes front.0 front.1 never)

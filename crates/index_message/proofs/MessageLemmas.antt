@@ -1,5 +1,6 @@
 -- What was read is the message that the input begins with.
-use Rattle.std.proofs.Common.{◌≡◌, ℕ, ◌<◌, ◌≤◌, inl, inr, List, [], ◌++◌, length, drop, map, take, Option, Some, None, Result, Ok, Err, refl, sym, ap, ◌∙◌, arith, append_assoc, length-append, Bool, true, false}
+use Rattle.std.proofs.Common.{◌≡◌, ℕ, ◌<◌, ◌≤◌, inl, inr, List, [], ◌++◌, length, drop, map, take, Option, Some, None, Result, Ok, Err}
+use Rattle.std.proofs.Common.{refl, sym, ap, ◌∙◌, arith, append_assoc, length-append, Bool, true, false}
 use Rattle.std.specs.Prelude.{if◌then◌else◌, is_some, nat_le, unwrap_or}
 use Rattle.std.specs.Str.{is_utf8}
 use Rattle.std.specs.Io.KnownBytes.{Consumes, IsAtEnd}
@@ -13,7 +14,8 @@ use Rattle.httparse.specs.declared.spans.RequestSpans.{RequestSpans}
 use Rattle.httparse.proofs.GrammarLemmas.{ReadsRequest-append, request_unique}
 use Rattle.index_io.specs.Bytes.{IsInput}
 use Rattle.index_message.specs.Heads.{HasHead, IsHeadAt}
-use Rattle.index_message.specs.Messages.{AwaitsBody, EndsUnfinished, FollowsHead, IsMessage, MayHaveHead, asked_by_head, asked_of, is_faulty, is_head_name, message_by, message_of, whole_of}
+use Rattle.index_message.specs.Messages.{AwaitsBody, EndsUnfinished, FollowsHead, IsMessage, MayHaveHead, asked_by_head, asked_of}
+use Rattle.index_message.specs.Messages.{is_faulty, is_head_name, message_by, message_of, whole_of}
 use Rattle.index_message.specs.Fields.{Field, fields_of}
 use Rattle.index_message.specs.Resources.{has_route, path_of, resource_of}
 use Rattle.index_message.specs.Routes.{route_of}
@@ -32,7 +34,8 @@ input_is (Some xs) None held c = absurd c
 input_is (Some xs) (Some ys) held c = sym c
 
 -- a head at the front of what was read is at the front of any input that begins so
-pub head_is : (held more : List ℕ) (fields : List HeaderSpan) (spans : RequestSpans) (found : IsHeadAt held fields spans) → length held ≤ 16384
+pub head_is : (held more : List ℕ) (fields : List HeaderSpan) (spans : RequestSpans) (found : IsHeadAt held fields spans)
+    → length held ≤ 16384
     → HasHead (held ++ more) found.head (drop spans.len held ++ more)
 head_is held more fields spans found short = record {
   reads = ReadsRequest-append held found.head (drop spans.len held) more found.at.reads;
@@ -40,13 +43,15 @@ head_is held more fields spans found short = record {
   few = found.few;
 }
 
-behind : (held more rest : List ℕ) (fields : List HeaderSpan) (spans : RequestSpans) (found : IsHeadAt held fields spans) → length held ≤ 16384
+behind : (held more rest : List ℕ) (fields : List HeaderSpan) (spans : RequestSpans) (found : IsHeadAt held fields spans)
+    → length held ≤ 16384
     → HasHead ((held ++ more) ++ rest) found.head ((drop spans.len held ++ more) ++ rest)
 behind held more rest fields spans found short =
     rw (append_assoc held more rest, append_assoc (drop spans.len held) more rest) (head_is held (more ++ rest) fields spans found short)
 
 -- a head that awaits its body, as it was read, is no message yet
-pub unfinished : (old mid new : Option (List ℕ)) (held more : List ℕ) (fields : List HeaderSpan) (spans : RequestSpans) (found : IsHeadAt held fields spans)
+pub unfinished : (old mid new : Option (List ℕ)) (held more : List ℕ) (fields : List HeaderSpan) (spans : RequestSpans)
+    (found : IsHeadAt held fields spans)
     → length held ≤ 16384 → Consumes old mid held → Consumes mid new more → AwaitsBody found.head (drop spans.len held ++ more)
     → EndsUnfinished old new
 unfinished old mid new held more fields spans found short first second awaits = (
@@ -57,7 +62,8 @@ unfinished old mid new held more fields spans found short first second awaits = 
 
 -- what the spans of a head ask for is what the head does
 pub asked_is : (held : List ℕ) (fields : List HeaderSpan) (spans : RequestSpans) (found : IsHeadAt held fields spans)
-    → asked_by_head (span_bytes held spans.method) (span_bytes held spans.path) (map (header_bytes held) (take spans.headers fields)) ≡ asked_of found.head
+    → asked_by_head (span_bytes held spans.method) (span_bytes held spans.path) (map (header_bytes held) (take spans.headers fields))
+    ≡ asked_of found.head
 asked_is held fields spans found =
     ap (λ m. asked_by_head m (span_bytes held spans.path) (map (header_bytes held) (take spans.headers fields))) found.at.method
     ∙ ap (λ t. asked_by_head found.head.method t (map (header_bytes held) (take spans.headers fields))) found.at.path
@@ -94,9 +100,12 @@ with_less head rest asked less =
     let short : nat_le asked.length (length rest) ≡ false = grind (arith, nat_tests) in rw short refl
 
 -- the request whose body came, whatever is left
-pub follows_whole : (held more rest body : List ℕ) (fields : List HeaderSpan) (spans : RequestSpans) (found : IsHeadAt held fields spans) (asked : Asked)
-    → asked_of found.head ≡ Ok asked → asked.length ≤ length (drop spans.len held ++ more) → body ≡ take asked.length (drop spans.len held ++ more)
-    → whole_of asked (map (header_bytes held) (take spans.headers fields)) body ≡ message_of found.head ((drop spans.len held ++ more) ++ rest)
+pub follows_whole : (held more rest body : List ℕ) (fields : List HeaderSpan) (spans : RequestSpans) (found : IsHeadAt held fields spans)
+    (asked : Asked)
+    → asked_of found.head ≡ Ok asked → asked.length ≤ length (drop spans.len held ++ more)
+    → body ≡ take asked.length (drop spans.len held ++ more)
+    → whole_of asked (map (header_bytes held) (take spans.headers fields)) body
+    ≡ message_of found.head ((drop spans.len held ++ more) ++ rest)
 follows_whole held more rest body fields spans found asked is enough taken =
     let front = drop spans.len held ++ more in
     let longer : asked.length ≤ length (front ++ rest) = rw length-append (omega arith) in
@@ -109,7 +118,8 @@ at_end None end = refl
 at_end (Some left) end = end
 
 -- the fault of a body that did not come whole
-pub follows_short : (held more : List ℕ) (new : Option (List ℕ)) (fields : List HeaderSpan) (spans : RequestSpans) (found : IsHeadAt held fields spans) (asked : Asked)
+pub follows_short : (held more : List ℕ) (new : Option (List ℕ)) (fields : List HeaderSpan) (spans : RequestSpans)
+    (found : IsHeadAt held fields spans) (asked : Asked)
     → asked_of found.head ≡ Ok asked → length (drop spans.len held ++ more) < asked.length → IsAtEnd new
     → Faulty ShortBody (is_head_name found.head.method) ≡ message_of found.head ((drop spans.len held ++ more) ++ unwrap_or new [])
 follows_short held more new fields spans found asked is less end =
@@ -118,7 +128,8 @@ follows_short held more new fields spans found asked is less end =
     sym (ap (message_of found.head) all ∙ ap (message_by found.head front) is ∙ with_less found.head front asked less)
 
 -- a head and what follows it are the message of the input
-pub message_read : (old mid new : Option (List ℕ)) (held : List ℕ) (fields : List HeaderSpan) (spans : RequestSpans) (found : IsHeadAt held fields spans) (message : Message)
+pub message_read : (old mid new : Option (List ℕ)) (held : List ℕ) (fields : List HeaderSpan) (spans : RequestSpans)
+    (found : IsHeadAt held fields spans) (message : Message)
     → length held ≤ 16384 → Consumes old mid held → FollowsHead found.head (drop spans.len held) mid new message
     → (input : List ℕ) × IsInput old input × IsMessage input message
 message_read old mid new held fields spans found message short taken follows =
@@ -129,13 +140,15 @@ message_read old mid new held fields spans found message short taken follows =
       inr (found.head, (drop spans.len held ++ more) ++ rest, behind held more rest fields spans found short, follows.2),
     )
 
-asked_when_whole : (head : RequestHead) (rest : List ℕ) (result : Result Asked MessageFault) → is_faulty (message_by head rest result) ≡ false
+asked_when_whole : (head : RequestHead) (rest : List ℕ) (result : Result Asked MessageFault)
+    → is_faulty (message_by head rest result) ≡ false
     → (asked : Asked) × (result ≡ Ok asked)
 asked_when_whole head rest (Err fault) whole = absurd (cc whole)
 asked_when_whole head rest (Ok asked) whole = (asked, refl)
 
 -- a message with no fault has a head, whose path has a route
-pub whole_has_head : (old new : Option (List ℕ)) (input : List ℕ) (message : Message) → IsInput old input → IsMessage input message → is_faulty message ≡ false
+pub whole_has_head : (old new : Option (List ℕ)) (input : List ℕ) (message : Message) → IsInput old input → IsMessage input message
+    → is_faulty message ≡ false
     → MayHaveHead old new
 whole_has_head old new input message given (inl none) whole = let is = none.1 in absurd (cc (is, whole))
 whole_has_head old new input message given (inr read) whole =

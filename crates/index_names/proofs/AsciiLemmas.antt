@@ -39,7 +39,8 @@ tag_byte-ascii c passes = grind (arith, nat_tests)
 
 pub IsAscii-name : (x : List ℕ) → is_project_name x ≡ true → IsAscii x
 IsAscii-name x passes =
-    IsAscii-list_all (λ c. is_ascii_alphanumeric c || is_separator c) name_byte-ascii x (and_parts _ _ (and_parts _ _ (and_parts _ _ passes).0).0).1
+    IsAscii-list_all (λ c. is_ascii_alphanumeric c || is_separator c) name_byte-ascii x
+    (and_parts _ _ (and_parts _ _ (and_parts _ _ passes).0).0).1
 
 pub IsAscii-version_text : (x : List ℕ) → is_version_text x ≡ true → IsAscii x
 IsAscii-version_text x passes =
@@ -52,28 +53,34 @@ IsAscii-join : (parts : List (List ℕ)) → AllByRecursion IsAscii parts → Is
 IsAscii-join [] ascii = IsAscii-nil
 IsAscii-join (part ∷ []) ascii = ascii.0
 IsAscii-join (part ∷ next ∷ parts) ascii =
-    IsAscii-append part (45 ∷ join_with_byte 45 (next ∷ parts)) ascii.0 (IsAscii-cons 45 _ (below-ascii 45 refl) (IsAscii-join (next ∷ parts) ascii.1))
+    IsAscii-append part (45 ∷ join_with_byte 45 (next ∷ parts)) ascii.0
+    (IsAscii-cons 45 _ (below-ascii 45 refl) (IsAscii-join (next ∷ parts) ascii.1))
 
-IsAscii-with_build : (build : Option (List ℕ)) (tags : List (List ℕ)) → option_map_or is_build_tag build true ≡ true → AllByRecursion IsAscii tags → AllByRecursion IsAscii (with_build build tags)
+IsAscii-with_build : (build : Option (List ℕ)) (tags : List (List ℕ)) → option_map_or is_build_tag build true ≡ true
+    → AllByRecursion IsAscii tags → AllByRecursion IsAscii (with_build build tags)
 IsAscii-with_build None tags passes ascii = ascii
 IsAscii-with_build (Some build) tags passes ascii = (IsAscii-tag build (and_parts _ _ passes).0, ascii)
 
 IsAscii-parts : (cut : WheelCut) → HasWheelParts cut → AllByRecursion IsAscii (parts_of cut)
 IsAscii-parts cut parts =
     let tags : AllByRecursion IsAscii (cut.python ∷ cut.abi ∷ cut.platform ∷ []) =
-    (IsAscii-tag cut.python parts.python, (IsAscii-tag cut.abi parts.abi, (IsAscii-tag cut.platform parts.platform, tt))) in
-    (IsAscii-name cut.distribution parts.name, (IsAscii-version_text cut.version parts.version, IsAscii-with_build cut.build _ parts.build tags))
+    (IsAscii-tag cut.python parts.python, (IsAscii-tag cut.abi parts.abi, (IsAscii-tag cut.platform parts.platform, tt))) in (
+      IsAscii-name cut.distribution parts.name,
+      (IsAscii-version_text cut.version parts.version, IsAscii-with_build cut.build _ parts.build tags),
+    )
 
 IsAscii-Spells : (f project release : List ℕ) (kind : FileKind) → Spells f project release kind → IsAscii f
 IsAscii-Spells f project release Wheel spells =
     let wheel = spells.2 in
     subst IsAscii (sym wheel.is_name)
-    (IsAscii-append (join_with_byte 45 (parts_of wheel.cut)) (codes ".whl") (IsAscii-join (parts_of wheel.cut) (IsAscii-parts wheel.cut (HasWheelParts-cut wheel.cut wheel.is_cut)))
+    (IsAscii-append (join_with_byte 45 (parts_of wheel.cut)) (codes ".whl")
+    (IsAscii-join (parts_of wheel.cut) (IsAscii-parts wheel.cut (HasWheelParts-cut wheel.cut wheel.is_cut)))
     (IsAscii-list_all (λ c. nat_lt c 128) below-ascii (codes ".whl") refl))
 IsAscii-Spells f project release Source spells =
     let source = spells.2 in
     let parts = and_parts _ _ source.is_cut in
-    let front = IsAscii-append source.cut.name (codes "-") (IsAscii-name source.cut.name parts.0) (IsAscii-list_all (λ c. nat_lt c 128) below-ascii (codes "-") refl) in
+    let front = IsAscii-append source.cut.name (codes "-") (IsAscii-name source.cut.name parts.0)
+    (IsAscii-list_all (λ c. nat_lt c 128) below-ascii (codes "-") refl) in
     let stem = IsAscii-append (source.cut.name ++ codes "-") source.cut.version front (IsAscii-version_text source.cut.version parts.1) in
     subst IsAscii (sym source.is_name)
     (IsAscii-append (source.cut.name ++ codes "-" ++ source.cut.version) (codes ".tar.gz") stem

@@ -1,5 +1,6 @@
 -- Where a text is cut at its hyphens.
-use Rattle.std.proofs.Common.{◌≡◌, ◌≢◌, ℕ, ◌+◌, ◌-◌, ◌<◌, ◌≤◌, Bool, true, false, not, List, [], ◌∷◌, ◌++◌, length, get_or, take, drop, Bor, Option, Some, None, All, inl, inr, ◌⊎◌, sym, ap, ◌∙◌, refl, arith, length-append}
+use Rattle.std.proofs.Common.{◌≡◌, ◌≢◌, ℕ, ◌+◌, ◌-◌, ◌<◌, ◌≤◌, Bool, true, false, not, List, [], ◌∷◌, ◌++◌, length, get_or, take, drop, Bor}
+use Rattle.std.proofs.Common.{Option, Some, None, All, inl, inr, ◌⊎◌, sym, ap, ◌∙◌, refl, arith, length-append}
 use Rattle.std.specs.Option.{MatchOption, is_some}
 use Rattle.std.specs.List.{list_all, list_any, suffix_len, before_last, after_last, slice_split, onto_first, join_with_byte, AllByRecursion}
 use Rattle.std.proofs.Math.Seq.{take-append_seam, drop-append-add, get_or-append_seam}
@@ -15,20 +16,23 @@ use Rattle.index_names.specs.Spelling.{is_hyphen}
 abbrev pub LacksHyphenFrom : List ℕ → ℕ → Type 0
 LacksHyphenFrom x i = (k : ℕ) → i ≤ k → k < length x → get_or x k 0 ≢ 45
 
-suffix_len-lacking : (x : List ℕ) (i : ℕ) → i ≤ length x → (0 < i → get_or x (i - 1) 0 ≡ 45) → LacksHyphenFrom x i → suffix_len (λ c. not (is_hyphen c)) x ≡ length x - i
+suffix_len-lacking : (x : List ℕ) (i : ℕ) → i ≤ length x → (0 < i → get_or x (i - 1) 0 ≡ 45) → LacksHyphenFrom x i
+    → suffix_len (λ c. not (is_hyphen c)) x ≡ length x - i
 suffix_len-lacking x i within hyphen lacks =
     suffix_len_is (λ c. not (is_hyphen c)) x i 0 within
     (λ k above inside. not_from_false _ (ne_eqb _ 45 (lacks k above inside)))
     (λ positive. not_from_true _ (eq-eqb _ 45 (hyphen positive)))
 
 -- behind the hyphen at i there is no other
-pub before_last-at : (x : List ℕ) (i : ℕ) → i < length x → get_or x i 0 ≡ 45 → LacksHyphenFrom x (i + 1) → before_last is_hyphen x ≡ take i x
+pub before_last-at : (x : List ℕ) (i : ℕ) → i < length x → get_or x i 0 ≡ 45 → LacksHyphenFrom x (i + 1)
+    → before_last is_hyphen x ≡ take i x
 before_last-at x i within hyphen lacks =
     let cut : suffix_len (λ c. not (is_hyphen c)) x ≡ length x - (i + 1) =
     suffix_len-lacking x (i + 1) (omega arith) (λ _. ap (λ k. get_or x k 0) (omega arith) ∙ hyphen) lacks in
     ap (λ n. take (length x - n - 1) x) cut ∙ ap (λ n. take n x) (omega arith)
 
-pub after_last-at : (x : List ℕ) (i : ℕ) → i < length x → get_or x i 0 ≡ 45 → LacksHyphenFrom x (i + 1) → after_last is_hyphen x ≡ drop (i + 1) x
+pub after_last-at : (x : List ℕ) (i : ℕ) → i < length x → get_or x i 0 ≡ 45 → LacksHyphenFrom x (i + 1)
+    → after_last is_hyphen x ≡ drop (i + 1) x
 after_last-at x i within hyphen lacks =
     let cut : suffix_len (λ c. not (is_hyphen c)) x ≡ length x - (i + 1) =
     suffix_len-lacking x (i + 1) (omega arith) (λ _. ap (λ k. get_or x k 0) (omega arith) ∙ hyphen) lacks in
@@ -42,15 +46,18 @@ list_any-none x lacks =
 -- with no hyphen nothing stands before it
 pub before_last_without : (x : List ℕ) → list_any is_hyphen x ≡ false → before_last is_hyphen x ≡ []
 before_last_without x none =
-    let lacks : LacksHyphenFrom x 0 = λ k above inside hyphen. false≢true (sym none ∙ list_any_at is_hyphen x k 0 inside (eq-eqb _ 45 hyphen)) in
-    let cut : suffix_len (λ c. not (is_hyphen c)) x ≡ length x - 0 = suffix_len-lacking x 0 (omega arith) (λ positive. absurd (omega arith)) lacks in
+    let lacks : LacksHyphenFrom x 0 = λ k above inside hyphen. false≢true
+    (sym none ∙ list_any_at is_hyphen x k 0 inside (eq-eqb _ 45 hyphen)) in
+    let cut : suffix_len (λ c. not (is_hyphen c)) x ≡ length x - 0 =
+    suffix_len-lacking x 0 (omega arith) (λ positive. absurd (omega arith)) lacks in
     let left : length x - (length x - 0) - 1 ≡ 0 = omega arith in
     ap (λ n. take (length x - n - 1) x) cut ∙ ap (λ n. take n x) left
 
 abbrev pub LacksHyphen : List ℕ → Type 0
 LacksHyphen x = All (λ c. is_hyphen c ≡ false) x
 
-pub LacksHyphen-list_all : (p : ℕ → Bool) → ((c : ℕ) → p c ≡ true → is_hyphen c ≡ false) → (x : List ℕ) → list_all p x ≡ true → LacksHyphen x
+pub LacksHyphen-list_all : (p : ℕ → Bool) → ((c : ℕ) → p c ≡ true → is_hyphen c ≡ false) → (x : List ℕ) → list_all p x ≡ true
+    → LacksHyphen x
 LacksHyphen-list_all p apart [] passes = All-nil (λ c. is_hyphen c ≡ false)
 LacksHyphen-list_all p apart (c ∷ x) passes =
     let parts = and_parts (p c) (list_all p x) passes in
@@ -67,12 +74,14 @@ LacksHyphenFrom-split front back lacks k above inside =
 
 pub before_last-split : (front back : List ℕ) → LacksHyphen back → before_last is_hyphen (front ++ 45 ∷ back) ≡ front
 before_last-split front back lacks =
-    before_last-at (front ++ 45 ∷ back) (length front) (omega (arith, length-append front (45 ∷ back))) (get_or-append_seam front 45 back 0) (LacksHyphenFrom-split front back lacks)
+    before_last-at (front ++ 45 ∷ back) (length front) (omega (arith, length-append front (45 ∷ back))) (get_or-append_seam front 45 back 0)
+    (LacksHyphenFrom-split front back lacks)
     ∙ take-append_seam front (45 ∷ back)
 
 pub after_last-split : (front back : List ℕ) → LacksHyphen back → after_last is_hyphen (front ++ 45 ∷ back) ≡ back
 after_last-split front back lacks =
-    after_last-at (front ++ 45 ∷ back) (length front) (omega (arith, length-append front (45 ∷ back))) (get_or-append_seam front 45 back 0) (LacksHyphenFrom-split front back lacks)
+    after_last-at (front ++ 45 ∷ back) (length front) (omega (arith, length-append front (45 ∷ back))) (get_or-append_seam front 45 back 0)
+    (LacksHyphenFrom-split front back lacks)
     ∙ drop-append-add front (45 ∷ back) 1
 
 -- a text that is cut at its last hyphen
@@ -97,13 +106,15 @@ pub join-last : (x : List ℕ) → before_last is_hyphen x ≢ [] → x ≡ befo
 join-last x something = elim (last_hyphen x) [
   | inl lacks ↦ absurd (something (before_last_without x (list_any_none is_hyphen x lacks)))
   | inr cut ↦
-      let before : before_last is_hyphen x ≡ cut.front = ap (before_last is_hyphen) cut.is ∙ before_last-split cut.front cut.back cut.lacks in
+      let before : before_last is_hyphen x ≡ cut.front =
+      ap (before_last is_hyphen) cut.is ∙ before_last-split cut.front cut.back cut.lacks in
       let after : after_last is_hyphen x ≡ cut.back = ap (after_last is_hyphen) cut.is ∙ after_last-split cut.front cut.back cut.lacks in
       cut.is ∙ sym (λ i. before i ++ 45 ∷ after i)
 ]
 
 -- the part before the first hyphen, which stands at i
-pub slice_split-at : (x : List ℕ) (i : ℕ) → i < length x → get_or x i 0 ≡ 45 → ((k : ℕ) → k < i → get_or x k 0 ≢ 45) → slice_split is_hyphen x ≡ take i x ∷ slice_split is_hyphen (drop (i + 1) x)
+pub slice_split-at : (x : List ℕ) (i : ℕ) → i < length x → get_or x i 0 ≡ 45 → ((k : ℕ) → k < i → get_or x k 0 ≢ 45)
+    → slice_split is_hyphen x ≡ take i x ∷ slice_split is_hyphen (drop (i + 1) x)
 slice_split-at x i within hyphen lacks =
     let around : x ≡ take i x ++ 45 ∷ drop (i + 1) x =
     sym (take-append-drop i x) ∙ ap (λ y. take i x ++ y) (drop_more x i 0 within ∙ ap (λ b. b ∷ drop (i + 1) x) hyphen) in
@@ -129,11 +140,16 @@ first_part (c ∷ x) =
     let rest = first_part x in
     elim (cases_Bool (is_hyphen c)) [
       | inl hyphen ↦ record { first = []; more = slice_split is_hyphen x; is = slice_split-cons_yes is_hyphen c x hyphen }
-      | inr other ↦ record { first = c ∷ rest.first; more = rest.more; is = slice_split-cons_no is_hyphen c x other ∙ ap (onto_first c) rest.is }
+      | inr other ↦ record {
+        first = c ∷ rest.first;
+        more = rest.more;
+        is = slice_split-cons_no is_hyphen c x other ∙ ap (onto_first c) rest.is;
+      }
     ]
 
 -- parts without a hyphen that are joined by hyphens are found again
-pub slice_split-join : (part : List ℕ) (parts : List (List ℕ)) → AllByRecursion LacksHyphen (part ∷ parts) → slice_split is_hyphen (join_with_byte 45 (part ∷ parts)) ≡ part ∷ parts
+pub slice_split-join : (part : List ℕ) (parts : List (List ℕ)) → AllByRecursion LacksHyphen (part ∷ parts)
+    → slice_split is_hyphen (join_with_byte 45 (part ∷ parts)) ≡ part ∷ parts
 slice_split-join part [] lacking = slice_split_none is_hyphen part lacking.0
 slice_split-join part (next ∷ parts) lacking =
     slice_split_at is_hyphen part 45 (join_with_byte 45 (next ∷ parts)) lacking.0 refl
@@ -145,6 +161,8 @@ pub record IsCutAtFirst (x : List ℕ) : Type 0 where
   pub back : List ℕ
   pub is : slice_split is_hyphen x ≡ front ∷ slice_split is_hyphen back
 
-pub cut_at_first : (x : List ℕ) (r : Option (Bor (List ℕ) × Bor (List ℕ))) → MatchOption r (slice_split is_hyphen x ≡ x ∷ []) (λ parts. slice_split is_hyphen x ≡ parts.0.now ∷ slice_split is_hyphen parts.1.now) → is_some r ≡ true → IsCutAtFirst x
+pub cut_at_first : (x : List ℕ) (r : Option (Bor (List ℕ) × Bor (List ℕ)))
+    → MatchOption r (slice_split is_hyphen x ≡ x ∷ []) (λ parts. slice_split is_hyphen x ≡ parts.0.now ∷ slice_split is_hyphen parts.1.now)
+    → is_some r ≡ true → IsCutAtFirst x
 cut_at_first x None clause found = absurd (false≢true found)
 cut_at_first x (Some parts) clause found = record { front = parts.0.now; back = parts.1.now; is = clause }

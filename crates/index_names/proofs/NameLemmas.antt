@@ -30,7 +30,8 @@ read_name-no_text x no_text =
 
 pub read_release-no_text : (x : List ℕ) → ¬ (IsUtf8 x) → read_release x ≡ None
 read_release-no_text x no_text =
-    none_where (read_release x) (λ release reads. no_text (IsUtf8-from_ascii x (IsAscii-version_text x (version_text-read_release x release reads))))
+    none_where (read_release x) (λ release reads. no_text
+    (IsUtf8-from_ascii x (IsAscii-version_text x (version_text-read_release x release reads))))
 
 pub read_file_name-no_text : (f : List ℕ) → ¬ (IsUtf8 f) → read_file_name f ≡ None
 read_file_name-no_text f no_text =

@@ -1,5 +1,6 @@
 -- What is still to be written of a normal form, when it is written from its front.
-use Rattle.std.proofs.Common.{◌≡◌, ℕ, suc, ◌+◌, ◌<◌, Bool, true, false, cond, not, refl, sym, ap, ◌∙◌, List, [], ◌∷◌, ◌++◌, map, length, get_or, drop, drop-cons, add-one, append_assoc}
+use Rattle.std.proofs.Common.{◌≡◌, ℕ, suc, ◌+◌, ◌<◌, Bool, true, false, cond, not, refl, sym, ap, ◌∙◌, List, [], ◌∷◌, ◌++◌, map, length}
+use Rattle.std.proofs.Common.{get_or, drop, drop-cons, add-one, append_assoc}
 use Rattle.std.specs.List.{join_with_byte}
 use Rattle.std.proofs.lemmas.Bool.{and_parts}
 use Rattle.std.specs.Char.{is_ascii_alphanumeric, to_ascii_lowercase}
@@ -38,17 +39,23 @@ hyphened-with_before c false runs = refl
 mutual
   rest-apart : (x : List ℕ) → rest true x ≡ hyphened (runs_of x)
   rest-apart [] = refl
-  rest-apart (c ∷ x) = elim (is_ascii_alphanumeric c) as (λ b. cond b (45 ∷ to_ascii_lowercase c ∷ []) [] ++ rest (not b) x ≡ hyphened (cond b (with_before c (begins_run x) (runs_of x)) (runs_of x))) [
-    | true ↦ ap (λ y. 45 ∷ to_ascii_lowercase c ∷ y) (rest-joined x) ∙ ap (λ y. 45 ∷ y) (sym (form_of-with_before c (begins_run x) (runs_of x))) ∙ sym (hyphened-with_before c (begins_run x) (runs_of x))
-    | false ↦ rest-apart x
-  ]
+  rest-apart (c ∷ x) = elim (is_ascii_alphanumeric c) as
+      (λ b. cond b (45 ∷ to_ascii_lowercase c ∷ []) [] ++ rest (not b) x
+      ≡ hyphened (cond b (with_before c (begins_run x) (runs_of x)) (runs_of x))) [
+        | true ↦ ap (λ y. 45 ∷ to_ascii_lowercase c ∷ y) (rest-joined x)
+            ∙ ap (λ y. 45 ∷ y) (sym (form_of-with_before c (begins_run x) (runs_of x)))
+            ∙ sym (hyphened-with_before c (begins_run x) (runs_of x))
+        | false ↦ rest-apart x
+      ]
 
   rest-joined : (x : List ℕ) → rest false x ≡ continued (begins_run x) (runs_of x)
   rest-joined [] = refl
-  rest-joined (c ∷ x) = elim (is_ascii_alphanumeric c) as (λ b. cond b (to_ascii_lowercase c ∷ []) [] ++ rest (not b) x ≡ continued b (cond b (with_before c (begins_run x) (runs_of x)) (runs_of x))) [
-    | true ↦ ap (λ y. to_ascii_lowercase c ∷ y) (rest-joined x) ∙ sym (form_of-with_before c (begins_run x) (runs_of x))
-    | false ↦ rest-apart x
-  ]
+  rest-joined (c ∷ x) = elim (is_ascii_alphanumeric c) as
+      (λ b. cond b (to_ascii_lowercase c ∷ []) [] ++ rest (not b) x
+      ≡ continued b (cond b (with_before c (begins_run x) (runs_of x)) (runs_of x))) [
+        | true ↦ ap (λ y. to_ascii_lowercase c ∷ y) (rest-joined x) ∙ sym (form_of-with_before c (begins_run x) (runs_of x))
+        | false ↦ rest-apart x
+      ]
 
 pub begins_run-name : (x : List ℕ) → is_project_name x ≡ true → begins_run x ≡ true
 begins_run-name [] is_name = is_name
@@ -59,7 +66,9 @@ pub rest-name : (x : List ℕ) → is_project_name x ≡ true → rest false x �
 rest-name x is_name = rest-joined x ∙ ap (λ b. continued b (runs_of x)) (begins_run-name x is_name)
 
 -- one more byte was written
-pub rest-more : (x : List ℕ) (i : ℕ) (old new : List ℕ) (is_apart : Bool) (c : ℕ) → i < length x → get_or x i 0 ≡ c → new ≡ old ++ added is_apart c → old ++ rest is_apart (drop i x) ≡ rest false x → new ++ rest (not (is_ascii_alphanumeric c)) (drop (i + 1) x) ≡ rest false x
+pub rest-more : (x : List ℕ) (i : ℕ) (old new : List ℕ) (is_apart : Bool) (c : ℕ) → i < length x → get_or x i 0 ≡ c
+    → new ≡ old ++ added is_apart c → old ++ rest is_apart (drop i x) ≡ rest false x
+    → new ++ rest (not (is_ascii_alphanumeric c)) (drop (i + 1) x) ≡ rest false x
 rest-more x i old new is_apart c in_range is_at is_new invariant =
     rw add-one
     (ap (λ y. y ++ rest (not (is_ascii_alphanumeric c)) (drop (suc i) x)) is_new

@@ -1,5 +1,6 @@
 -- A release is a version text, and its own release.
-use Rattle.std.proofs.Common.{◌≡◌, ℕ, ◌-◌, true, ◌&&◌, List, [], ◌∷◌, Some, map, length, get_or, refl, sym, ap, ◌∙◌, subst, arith, inl, inr, nat_le}
+use Rattle.std.proofs.Common.{◌≡◌, ℕ, ◌-◌, true, ◌&&◌, List, [], ◌∷◌, Some, map, length, get_or, refl, sym, ap, ◌∙◌, subst, arith, inl, inr}
+use Rattle.std.proofs.Common.{nat_le}
 use Rattle.std.specs.Char.{is_ascii_alphanumeric, to_ascii_lowercase}
 use Rattle.std.specs.List.{list_all}
 use Rattle.std.proofs.lemmas.Bool.{and_parts, and_from, cases_Bool, cond-true, cond-false}
@@ -34,7 +35,9 @@ version_text-release x is_version =
     let same : length (named_release x) ≡ length x = length-map x to_ascii_lowercase in
     let sizes = ap (λ n. nat_le 1 n && nat_le n 64) same ∙ to_bytes.0 in
     let first = ap is_ascii_alphanumeric (get_or-map to_ascii_lowercase x 0 0) ∙ alphanumeric-lower (get_or x 0 0) to_first.1 in
-    let last = ap (λ n. is_ascii_alphanumeric (get_or (named_release x) (n - 1) 0)) same ∙ ap is_ascii_alphanumeric (get_or-map to_ascii_lowercase x (length x - 1) 0) ∙ alphanumeric-lower (get_or x (length x - 1) 0) to_last.1 in
+    let last = ap (λ n. is_ascii_alphanumeric (get_or (named_release x) (n - 1) 0)) same
+    ∙ ap is_ascii_alphanumeric (get_or-map to_ascii_lowercase x (length x - 1) 0)
+    ∙ alphanumeric-lower (get_or x (length x - 1) 0) to_last.1 in
     and_from _ _ (and_from _ _ (and_from _ _ sizes (version_bytes-lower x to_bytes.1)) first) last
 
 -- ---- what a version text is read as is read as itself

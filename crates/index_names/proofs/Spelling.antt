@@ -1,5 +1,6 @@
 -- What is read of a file name is what it spells.
-use Rattle.std.proofs.Common.{◌≡◌, ◌≢◌, ℕ, ◌-◌, ◌≤◌, true, false, cond, not, List, [], ◌∷◌, ◌++◌, Option, Some, None, length, take, drop, refl, sym, ap, ◌∙◌, subst, arith, length-append, append_assoc, nat_le, inl, inr}
+use Rattle.std.proofs.Common.{◌≡◌, ◌≢◌, ℕ, ◌-◌, ◌≤◌, true, false, cond, not, List, [], ◌∷◌, ◌++◌, Option, Some, None, length, take, drop}
+use Rattle.std.proofs.Common.{refl, sym, ap, ◌∙◌, subst, arith, length-append, append_assoc, nat_le, inl, inr}
 use Rattle.std.specs.Prelude.{codes, bytes_eq, option_and_then}
 use Rattle.std.specs.List.{join_with_byte, slice_split, before_last, after_last, AllByRecursion}
 use Rattle.std.specs.Option.{option_map_or}
@@ -14,9 +15,12 @@ use Rattle.index_names.specs.declared.file_name.FileKind.{FileKind}
 use Rattle.index_names.specs.declared.file_name.FileKind.TheVariants.{Wheel, Source}
 use Rattle.index_names.specs.Project.{is_project_name, normal_form}
 use Rattle.index_names.specs.Release.{is_version_byte, is_version_text, named_release}
-use Rattle.index_names.specs.FileName.{Spelled, wheel_cut_of, spelled_by_wheel, spelled_by_source, read_wheel, read_source, strip_suffix, read_stem, read_file_name}
-use Rattle.index_names.specs.Spelling.{WheelCut, SourceCut, Spells, is_hyphen, is_tag_byte, is_tag, is_build_tag, is_wheel_cut, is_source_cut, with_build, parts_of, wheel_name, source_name}
-use Rattle.index_names.proofs.HyphenLemmas.{LacksHyphen, LacksHyphen-list_all, before_last-split, after_last-split, join-last, slice_split-join}
+use Rattle.index_names.specs.FileName.{Spelled, wheel_cut_of, spelled_by_wheel, spelled_by_source, read_wheel, read_source, strip_suffix}
+use Rattle.index_names.specs.FileName.{read_stem, read_file_name}
+use Rattle.index_names.specs.Spelling.{WheelCut, SourceCut, Spells, is_hyphen, is_tag_byte, is_tag, is_build_tag, is_wheel_cut}
+use Rattle.index_names.specs.Spelling.{is_source_cut, with_build, parts_of, wheel_name, source_name}
+use Rattle.index_names.proofs.HyphenLemmas.{LacksHyphen, LacksHyphen-list_all, before_last-split, after_last-split, join-last}
+use Rattle.index_names.proofs.HyphenLemmas.{slice_split-join}
 use Rattle.index_names.proofs.WheelCuts.{HasWheelParts, HasWheelParts-cut, spelled_by_wheel-passing}
 
 abbrev pub IsSpelled : List ℕ → Spelled → Type 0
@@ -73,7 +77,8 @@ LacksHyphen-tag : (x : List ℕ) → is_tag x ≡ true → LacksHyphen x
 LacksHyphen-tag x passes = LacksHyphen-list_all is_tag_byte tag_byte-apart x (and_parts _ _ passes).1
 
 -- each part of a wheel's cut stands between hyphens
-LacksHyphen-with_build : (build : Option (List ℕ)) (tags : List (List ℕ)) → option_map_or is_build_tag build true ≡ true → AllByRecursion LacksHyphen tags → AllByRecursion LacksHyphen (with_build build tags)
+LacksHyphen-with_build : (build : Option (List ℕ)) (tags : List (List ℕ)) → option_map_or is_build_tag build true ≡ true
+    → AllByRecursion LacksHyphen tags → AllByRecursion LacksHyphen (with_build build tags)
 LacksHyphen-with_build None tags passes lack = lack
 LacksHyphen-with_build (Some build) tags passes lack = (LacksHyphen-tag build (and_parts _ _ passes).0, lack)
 
@@ -87,8 +92,12 @@ LacksHyphen-parts cut parts =
 
 -- the parts by their number are the cut that has these parts
 cut_from_parts : (cut : WheelCut) (build : Option (List ℕ)) → cut.build ≡ build → wheel_cut_of (parts_of cut) ≡ Some cut
-cut_from_parts cut None is = subst (λ o. wheel_cut_of (cut.distribution ∷ cut.version ∷ with_build o (cut.python ∷ cut.abi ∷ cut.platform ∷ [])) ≡ Some (record cut { build = o })) (sym is) refl
-cut_from_parts cut (Some build) is = subst (λ o. wheel_cut_of (cut.distribution ∷ cut.version ∷ with_build o (cut.python ∷ cut.abi ∷ cut.platform ∷ [])) ≡ Some (record cut { build = o })) (sym is) refl
+cut_from_parts cut None is = subst (λ o. wheel_cut_of
+    (cut.distribution ∷ cut.version ∷ with_build o (cut.python ∷ cut.abi ∷ cut.platform ∷ [])) ≡ Some (record cut { build = o })) (sym is)
+    refl
+cut_from_parts cut (Some build) is = subst (λ o. wheel_cut_of
+    (cut.distribution ∷ cut.version ∷ with_build o (cut.python ∷ cut.abi ∷ cut.platform ∷ [])) ≡ Some (record cut { build = o })) (sym is)
+    refl
 
 parts_from_cut : (parts : List (List ℕ)) (cut : WheelCut) → wheel_cut_of parts ≡ Some cut → parts ≡ parts_of cut
 parts_from_cut [] cut is = absurd (none-some cut is)
@@ -100,13 +109,18 @@ parts_from_cut (a ∷ b ∷ c ∷ d ∷ e ∷ []) cut is = ap parts_of (same_Som
 parts_from_cut (a ∷ b ∷ c ∷ d ∷ e ∷ f ∷ []) cut is = ap parts_of (same_Some _ cut is)
 parts_from_cut (a ∷ b ∷ c ∷ d ∷ e ∷ f ∷ g ∷ more) cut is = absurd (none-some cut is)
 
-read_wheel-cut : (cut : WheelCut) → is_wheel_cut cut ≡ true → read_wheel (join_with_byte 45 (parts_of cut)) ≡ Some (record { project = normal_form cut.distribution; release = named_release cut.version; kind = Wheel })
+read_wheel-cut : (cut : WheelCut) → is_wheel_cut cut ≡ true
+    → read_wheel (join_with_byte 45 (parts_of cut))
+    ≡ Some (record { project = normal_form cut.distribution; release = named_release cut.version; kind = Wheel })
 read_wheel-cut cut passes =
-    ap (λ parts. option_and_then spelled_by_wheel (wheel_cut_of parts)) (slice_split-join cut.distribution (cut.version ∷ with_build cut.build (cut.python ∷ cut.abi ∷ cut.platform ∷ [])) (LacksHyphen-parts cut (HasWheelParts-cut cut passes)))
+    ap (λ parts. option_and_then spelled_by_wheel (wheel_cut_of parts))
+    (slice_split-join cut.distribution (cut.version ∷ with_build cut.build (cut.python ∷ cut.abi ∷ cut.platform ∷ []))
+    (LacksHyphen-parts cut (HasWheelParts-cut cut passes)))
     ∙ ap (option_and_then spelled_by_wheel) (cut_from_parts cut cut.build refl)
     ∙ spelled_by_wheel-passing cut passes
 
-IsSpelled-wheel : (f stem : List ℕ) (spelled : Spelled) → length f ≤ 255 → f ≡ stem ++ codes ".whl" → read_wheel stem ≡ Some spelled → IsSpelled f spelled
+IsSpelled-wheel : (f stem : List ℕ) (spelled : Spelled) → length f ≤ 255 → f ≡ stem ++ codes ".whl" → read_wheel stem ≡ Some spelled
+    → IsSpelled f spelled
 IsSpelled-wheel f stem spelled short is reads =
     option_and_then_some spelled_by_wheel (wheel_cut_of (slice_split is_hyphen stem)) spelled reads (λ cut found spells.
     elim (cases_Bool (is_wheel_cut cut)) [
@@ -116,17 +130,24 @@ IsSpelled-wheel f stem spelled short is reads =
           let joined : stem ≡ join_with_byte 45 (parts_of cut) =
           sym (join_with_byte-slice_split 45 stem) ∙ ap (join_with_byte 45) (parts_from_cut (slice_split is_hyphen stem) cut found) in
           let named : f ≡ wheel_name cut = is ∙ ap (λ y. y ++ codes ".whl") joined in
-          subst (IsSpelled f) same (omega (arith, ap length named, length-append (join_with_byte 45 (parts_of cut)) (codes ".whl")), short, record { cut = cut; is_name = named; is_cut = passes; is_project = refl; is_release = refl })
+          subst (IsSpelled f) same (
+            omega (arith, ap length named, length-append (join_with_byte 45 (parts_of cut)) (codes ".whl")),
+            short,
+            record { cut = cut; is_name = named; is_cut = passes; is_project = refl; is_release = refl },
+          )
       | inr fails ↦ absurd (none-some spelled (sym (cond-false _ _ _ fails) ∙ spells))
     ])
 
 -- ---- the parts of a source archive's name
 
-spelled_by_source-passing : (cut : SourceCut) → is_source_cut cut ≡ true → spelled_by_source cut ≡ Some (record { project = normal_form cut.name; release = named_release cut.version; kind = Source })
+spelled_by_source-passing : (cut : SourceCut) → is_source_cut cut ≡ true
+    → spelled_by_source cut ≡ Some (record { project = normal_form cut.name; release = named_release cut.version; kind = Source })
 spelled_by_source-passing cut passes =
     ap (λ b. cond b (Some (record { project = normal_form cut.name; release = named_release cut.version; kind = Source })) None) passes
 
-read_source-cut : (cut : SourceCut) → is_source_cut cut ≡ true → read_source (cut.name ++ 45 ∷ cut.version) ≡ Some (record { project = normal_form cut.name; release = named_release cut.version; kind = Source })
+read_source-cut : (cut : SourceCut) → is_source_cut cut ≡ true
+    → read_source (cut.name ++ 45 ∷ cut.version)
+    ≡ Some (record { project = normal_form cut.name; release = named_release cut.version; kind = Source })
 read_source-cut cut passes =
     let lacks : LacksHyphen cut.version = LacksHyphen-version cut.version (and_parts _ _ passes).1 in
     let before = before_last-split cut.name cut.version lacks in
@@ -137,7 +158,8 @@ read_source-cut cut passes =
 source_stem : (name version : List ℕ) → name ++ codes "-" ++ version ≡ name ++ 45 ∷ version
 source_stem name version = append_assoc name (codes "-") version
 
-IsSpelled-source : (f stem : List ℕ) (spelled : Spelled) → length f ≤ 255 → f ≡ stem ++ codes ".tar.gz" → read_source stem ≡ Some spelled → IsSpelled f spelled
+IsSpelled-source : (f stem : List ℕ) (spelled : Spelled) → length f ≤ 255 → f ≡ stem ++ codes ".tar.gz" → read_source stem ≡ Some spelled
+    → IsSpelled f spelled
 IsSpelled-source f stem spelled short is reads =
     let cut : SourceCut = record { name = before_last is_hyphen stem; version = after_last is_hyphen stem } in
     elim (cases_Bool (is_source_cut cut)) [
@@ -147,13 +169,19 @@ IsSpelled-source f stem spelled short is reads =
           let something : before_last is_hyphen stem ≢ [] = λ none. false≢true (ap is_project_name (sym none) ∙ (and_parts _ _ passes).0) in
           let joined : stem ≡ cut.name ++ codes "-" ++ cut.version = join-last stem something ∙ sym (source_stem cut.name cut.version) in
           let named : f ≡ source_name cut = is ∙ ap (λ y. y ++ codes ".tar.gz") joined in
-          subst (IsSpelled f) same (omega (arith, ap length is, length-append stem (codes ".tar.gz")), short, record { cut = cut; is_name = named; is_cut = passes; is_project = refl; is_release = refl })
+          subst (IsSpelled f) same (
+            omega (arith, ap length is, length-append stem (codes ".tar.gz")),
+            short,
+            record { cut = cut; is_name = named; is_cut = passes; is_project = refl; is_release = refl },
+          )
       | inr fails ↦ absurd (none-some spelled (sym (cond-false _ _ _ fails) ∙ reads))
     ]
 
 -- ---- the whole
 
-IsSpelled-stem : (f : List ℕ) (spelled : Spelled) → length f ≤ 255 → (wheel source : Option (List ℕ)) → strip_suffix (codes ".whl") f ≡ wheel → strip_suffix (codes ".tar.gz") f ≡ source → read_stem wheel source ≡ Some spelled → IsSpelled f spelled
+IsSpelled-stem : (f : List ℕ) (spelled : Spelled) → length f ≤ 255 → (wheel source : Option (List ℕ))
+    → strip_suffix (codes ".whl") f ≡ wheel → strip_suffix (codes ".tar.gz") f ≡ source → read_stem wheel source ≡ Some spelled
+    → IsSpelled f spelled
 IsSpelled-stem f spelled short (Some stem) source is_wheel is_source reads =
     IsSpelled-wheel f stem spelled short (append-strip_suffix (codes ".whl") f stem is_wheel) reads
 IsSpelled-stem f spelled short None (Some stem) is_wheel is_source reads =
@@ -169,19 +197,22 @@ IsSpelled-read f spelled reads = elim (cases_Bool (nat_le (length f) 255)) [
 ]
 
 -- what is spelled is read
-pub read-Spells : (f project release : List ℕ) (kind : FileKind) → Spells f project release kind → read_file_name f ≡ Some (record { project = project; release = release; kind = kind })
+pub read-Spells : (f project release : List ℕ) (kind : FileKind) → Spells f project release kind
+    → read_file_name f ≡ Some (record { project = project; release = release; kind = kind })
 unfolding read_file_name
 read-Spells f project release Wheel spells =
     let wheel = spells.2 in
     cond-true _ _ _ (le-leb _ 255 spells.1)
-    ∙ ap (λ o. read_stem o (strip_suffix (codes ".tar.gz") f)) (ap (strip_suffix (codes ".whl")) wheel.is_name ∙ strip_suffix-append (join_with_byte 45 (parts_of wheel.cut)) (codes ".whl"))
+    ∙ ap (λ o. read_stem o (strip_suffix (codes ".tar.gz") f))
+    (ap (strip_suffix (codes ".whl")) wheel.is_name ∙ strip_suffix-append (join_with_byte 45 (parts_of wheel.cut)) (codes ".whl"))
     ∙ read_wheel-cut wheel.cut wheel.is_cut
     ∙ (λ i. Some (record { project = sym wheel.is_project i; release = sym wheel.is_release i; kind = Wheel }))
 read-Spells f project release Source spells =
     let source = spells.2 in
     let stem = source.cut.name ++ codes "-" ++ source.cut.version in
     let no_wheel : strip_suffix (codes ".whl") f ≡ None = ap (strip_suffix (codes ".whl")) source.is_name ∙ strip_suffix-source stem in
-    let stripped : strip_suffix (codes ".tar.gz") f ≡ Some stem = ap (strip_suffix (codes ".tar.gz")) source.is_name ∙ strip_suffix-append stem (codes ".tar.gz") in
+    let stripped : strip_suffix (codes ".tar.gz") f ≡ Some stem =
+    ap (strip_suffix (codes ".tar.gz")) source.is_name ∙ strip_suffix-append stem (codes ".tar.gz") in
     cond-true _ _ _ (le-leb _ 255 spells.1)
     ∙ (λ i. read_stem (no_wheel i) (stripped i))
     ∙ ap read_source (source_stem source.cut.name source.cut.version)

@@ -27,11 +27,21 @@ HasWheelParts-cut cut is_cut =
     let to_build = and_parts _ (option_map_or is_build_tag cut.build true) to_python.0 in
     let to_version = and_parts (is_distribution cut.distribution) (is_version_text cut.version) to_build.0 in
     let to_name = and_parts (is_project_name cut.distribution) (list_all (λ c. not (is_hyphen c)) cut.distribution) to_version.0 in
-    record { name = to_name.0; apart = to_name.1; version = to_version.1; build = to_build.1; python = to_python.1; abi = to_abi.1; platform = to_platform.1 }
+    record {
+      name = to_name.0;
+      apart = to_name.1;
+      version = to_version.1;
+      build = to_build.1;
+      python = to_python.1;
+      abi = to_abi.1;
+      platform = to_platform.1;
+    }
 
-pub spelled_by_wheel-passing : (cut : WheelCut) → is_wheel_cut cut ≡ true → spelled_by_wheel cut ≡ Some (record { project = normal_form cut.distribution; release = named_release cut.version; kind = Wheel })
+pub spelled_by_wheel-passing : (cut : WheelCut) → is_wheel_cut cut ≡ true
+    → spelled_by_wheel cut ≡ Some (record { project = normal_form cut.distribution; release = named_release cut.version; kind = Wheel })
 spelled_by_wheel-passing cut is_cut =
-    ap (λ b. cond b (Some (record { project = normal_form cut.distribution; release = named_release cut.version; kind = Wheel })) None) is_cut
+    ap (λ b. cond b (Some (record { project = normal_form cut.distribution; release = named_release cut.version; kind = Wheel })) None)
+    is_cut
 
 -- seven parts or more are no cut
 pub wheel_cut_of-many : (a b c d e f x : List ℕ) → wheel_cut_of (a ∷ b ∷ c ∷ d ∷ e ∷ f ∷ slice_split is_hyphen x) ≡ None

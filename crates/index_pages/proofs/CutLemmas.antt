@@ -1,5 +1,6 @@
 -- A list, cut at the first byte that is a separator.
-use Rattle.std.proofs.Common.{◌≡◌, ◌≢◌, ℕ, zero, suc, ◌+◌, ◌<◌, true, false, ◌==◌, List, [], ◌∷◌, length, get_or, refl, ap, ◌∙◌, arith, take, drop}
+use Rattle.std.proofs.Common.{◌≡◌, ◌≢◌, ℕ, zero, suc, ◌+◌, ◌<◌, true, false, ◌==◌, List, [], ◌∷◌, length, get_or, refl, ap, ◌∙◌, arith}
+use Rattle.std.proofs.Common.{take, drop}
 use Rattle.std.proofs.lemmas.Bool.Decides.{nat_tests}
 use Rattle.std.specs.Prelude.{cond}
 use Rattle.std.specs.List.{onto_first}
@@ -19,7 +20,10 @@ Lacks-tail c n m x xs e h i lt = h (suc i) (omega arith)
 pub cut_at-none : (c : ℕ) (xs : List ℕ) → Lacks c (length xs) xs → cut_at c xs ≡ xs ∷ []
 cut_at-none c [] h = refl
 cut_at-none c (x ∷ xs) h =
-    rw (head_differs c (suc (length xs)) x xs (omega arith) h, cut_at-none c xs (Lacks-tail c (suc (length xs)) (length xs) x xs (omega arith) h))
+    rw (
+      head_differs c (suc (length xs)) x xs (omega arith) h,
+      cut_at-none c xs (Lacks-tail c (suc (length xs)) (length xs) x xs (omega arith) h),
+    )
 
 pub cut_at-found : (c i : ℕ) (xs : List ℕ) → i < length xs → Lacks c i xs → get_or xs i 0 ≡ c
     → cut_at c xs ≡ take i xs ∷ cut_at c (drop (suc i) xs)
@@ -34,11 +38,13 @@ pub cut_at-first : (c : ℕ) (xs : List ℕ) → (part : List ℕ) × (parts : L
 cut_at-first c [] = ([], [], refl)
 cut_at-first c (x ∷ xs) =
     let first = cut_at-first c xs in
-    elim (x == c) as (λ b. (part : List ℕ) × (parts : List (List ℕ)) × (cond b ([] ∷ cut_at c xs) (onto_first x (cut_at c xs)) ≡ part ∷ parts))
+    elim (x == c) as (λ b. (part : List ℕ) × (parts : List (List ℕ))
+    × (cond b ([] ∷ cut_at c xs) (onto_first x (cut_at c xs)) ≡ part ∷ parts))
     [ true ↦ ([], cut_at c xs, refl) | false ↦ (x ∷ first.0, first.1, ap (onto_first x) first.2) ]
 
 -- three parts are not two
-pub are_two-three : (range a rest b last : List ℕ) → cut_at (byte "/") range ≡ a ∷ cut_at (byte "/") rest → cut_at (byte "/") rest ≡ b ∷ cut_at (byte "/") last
+pub are_two-three : (range a rest b last : List ℕ) → cut_at (byte "/") range ≡ a ∷ cut_at (byte "/") rest
+    → cut_at (byte "/") rest ≡ b ∷ cut_at (byte "/") last
     → are_two (cut_at (byte "/") range) ≡ false
 are_two-three range a rest b last first second =
     let more = cut_at-first 47 last in

@@ -1,5 +1,6 @@
 -- The JSON of a file, and the page by its rows.
-use Rattle.std.proofs.Common.{◌≡◌, ◌++◌, ℕ, Bool, true, false, ◌==◌, List, [], ◌∷◌, length, codes, refl, sym, ap, ◌∙◌, append_assoc, append-nil, Option, Some, None, cond}
+use Rattle.std.proofs.Common.{◌≡◌, ◌++◌, ℕ, Bool, true, false, ◌==◌, List, [], ◌∷◌, length, codes, refl, sym, ap, ◌∙◌, append_assoc}
+use Rattle.std.proofs.Common.{append-nil, Option, Some, None, cond}
 use Rattle.std.specs.Prelude.{decimal}
 use Rattle.std.specs.List.{flat_map}
 use Rattle.std.proofs.lemmas.List.Concat.{flat_map-append}
@@ -13,7 +14,8 @@ use Rattle.index_rules.specs.Maps.{Bytes}
 use Rattle.index_rules.specs.declared.rows.FileRow.{FileRow}
 use Rattle.index_rules.specs.declared.rows.NameRow.{NameRow}
 use Rattle.index_pages.specs.Json.{file_data, hashes, names_of, project_json, reason_data, root_json, url_of, yanked_member}
-use Rattle.index_pages.specs.Parts.{file_front, file_text, files_bottom, files_top, json_rest, json_text, later_member, name_text, names_top, once, releases_text, requires_text, yanked_text}
+use Rattle.index_pages.specs.Parts.{file_front, file_text, files_bottom, files_top, json_rest, json_text, later_member, name_text}
+use Rattle.index_pages.specs.Parts.{names_top, once, releases_text, requires_text, yanked_text}
 use Rattle.index_pages.specs.Versions.{with_release}
 use Rattle.index_pages.proofs.EscapeLemmas.{digest-plain, escape-plain}
 
@@ -24,7 +26,8 @@ file_by : (b : Bool) (file requires : Bytes) (hashed size url : Data) (yanked : 
     (cond b (member (codes "size") size (member (codes "url") url (yanked_member yanked)))
     (member (codes "requires-python") (string requires) (member (codes "size") size (member (codes "url") url (yanked_member yanked))))))))
     ≡ codes "{\"filename\":" ++ (json_text file ++ (later_member (codes "hashes") hashed
-    ++ (cond b [] (later_member (codes "requires-python") (string requires)) ++ (later_member (codes "size") size ++ (later_member (codes "url") url ++ (yanked_text yanked ++ codes "}"))))))
+    ++ (cond b [] (later_member (codes "requires-python") (string requires))
+    ++ (later_member (codes "size") size ++ (later_member (codes "url") url ++ (yanked_text yanked ++ codes "}"))))))
 unfolding json_text serde_json_on_literals
 file_by true file requires hashed size url None = refl
 file_by true file requires hashed size url (Some reason) = refl
@@ -42,8 +45,10 @@ file-members project row =
     let requires = requires_text row.requires_python in
     let url = later_member (codes "url") (string (url_of project row.file)) in
     let last = later_member (codes "size") (number (unsigned row.size)) ++ (url ++ (yanked_text row.yanked ++ codes "}")) in
-    ap (λ x. codes "{\"filename\":" ++ x) (append_assoc (json_text row.file) (hashed ++ requires) last ∙ ap (λ x. json_text row.file ++ x) (append_assoc hashed requires last))
-    ∙ sym (file_by (length row.requires_python == 0) row.file row.requires_python (hashes row.digest) (number (unsigned row.size)) (string (url_of project row.file)) row.yanked)
+    ap (λ x. codes "{\"filename\":" ++ x) (append_assoc (json_text row.file) (hashed ++ requires) last
+    ∙ ap (λ x. json_text row.file ++ x) (append_assoc hashed requires last))
+    ∙ sym (file_by (length row.requires_python == 0) row.file row.requires_python (hashes row.digest) (number (unsigned row.size))
+    (string (url_of project row.file)) row.yanked)
 
 -- the digits of a digest are no bytes to escape
 pub hashes-text : (digest text : Bytes) → text ≡ text_of digest → read_digest text ≡ Some digest
@@ -76,15 +81,19 @@ pub size-text : (size : ℕ) → codes ",\"size\":" ++ decimal size ≡ later_me
 unfolding serde_json_on_literals
 size-text size = refl
 
-path-quoted : (project file : Bytes) → project ++ (codes "/" ++ (file ++ codes "\"")) ≡ (project ++ (codes "/" ++ (file ++ []))) ++ codes "\""
+path-quoted : (project file : Bytes) → project
+    ++ (codes "/" ++ (file ++ codes "\"")) ≡ (project ++ (codes "/" ++ (file ++ []))) ++ codes "\""
 path-quoted project file =
-    sym (append_assoc project (codes "/" ++ (file ++ [])) (codes "\"") ∙ ap (λ x. project ++ (codes "/" ++ (x ++ codes "\""))) (append-nil file))
+    sym (append_assoc project (codes "/" ++ (file ++ [])) (codes "\"") ∙ ap (λ x. project ++ (codes "/" ++ (x ++ codes "\"")))
+    (append-nil file))
 
 pub url-text : (project file : Bytes) → codes ",\"url\":\"/files/" ++ (escape project ++ (codes "/" ++ (escape file ++ codes "\"")))
     ≡ later_member (codes "url") (string (url_of project file))
 unfolding serde_json_on_literals
 url-text project file =
-    let path : escape (project ++ (codes "/" ++ (file ++ []))) ≡ escape project ++ (codes "/" ++ (escape file ++ [])) = flat_map-append escape_byte project (codes "/" ++ (file ++ [])) ∙ ap (λ x. escape project ++ (codes "/" ++ x)) (flat_map-append escape_byte file []) in
+    let path : escape (project ++ (codes "/" ++ (file ++ []))) ≡ escape project ++ (codes "/" ++ (escape file ++ [])) =
+    flat_map-append escape_byte project (codes "/" ++ (file ++ []))
+    ∙ ap (λ x. escape project ++ (codes "/" ++ x)) (flat_map-append escape_byte file []) in
     ap (λ x. codes ",\"url\":\"/files/" ++ x) (path-quoted (escape project) (escape file))
     ∙ ap (λ x. codes ",\"url\":\"/files/" ++ (x ++ codes "\"")) (sym path)
 
@@ -97,16 +106,19 @@ json-whole project rows = refl
 
 -- a release's text is the next of those of the releases
 pub releases-next : (text : Bytes) (is_later : Bool) (release : Bytes) (releases : List Bytes)
-    → (text ++ (comma_if is_later ++ json_text release)) ++ releases_text true releases ≡ text ++ releases_text is_later (release ∷ releases)
+    → (text ++ (comma_if is_later ++ json_text release)) ++ releases_text true releases ≡ text
+    ++ releases_text is_later (release ∷ releases)
 unfolding json_text
 releases-next text is_later release releases =
     let comma = comma_if is_later in
-    append_assoc text (comma ++ json_text release) (releases_text true releases) ∙ ap (λ x. text ++ x) (append_assoc comma (json_text release) (releases_text true releases))
+    append_assoc text (comma ++ json_text release) (releases_text true releases)
+    ∙ ap (λ x. text ++ x) (append_assoc comma (json_text release) (releases_text true releases))
 
 -- a row's text is the next of the page
 pub json-next : (project : Bytes) (is_started : Bool) (held : List Bytes) (row : FileRow) (rows : List FileRow)
     → json_rest project is_started held (row ∷ rows)
-    ≡ (once is_started files_top ++ (comma_if is_started ++ file_text project row)) ++ json_rest project true (with_release held row.release) rows
+    ≡ (once is_started files_top ++ (comma_if is_started ++ file_text project row))
+    ++ json_rest project true (with_release held row.release) rows
 unfolding file_text
 json-next project is_started held row rows = simp append_assoc refl
 

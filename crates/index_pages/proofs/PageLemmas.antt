@@ -69,12 +69,14 @@ json-by is_started name (Held project) rows later =
     ∙ ap (λ x. root_start true is_started ++ x) (moved comma text items (codes "}"))
 json-by is_started name Prohibited rows later = later is_started
 
-json-lines : (is_started : Bool) (rows : List NameRow) → root_rest true is_started rows ≡ root_start true is_started ++ json_lines is_started rows
+json-lines : (is_started : Bool) (rows : List NameRow)
+    → root_rest true is_started rows ≡ root_start true is_started ++ json_lines is_started rows
 json-lines is_started [] = refl
 json-lines is_started (row ∷ rows) = json-by is_started row.name row.record rows (λ b. json-lines b rows)
 
 -- a page that has not begun is still to be written whole
-pub root-whole : (as_json : Bool) (rows : List NameRow) → root_rest as_json false rows ≡ (if as_json then root_json rows else root_html rows)
+pub root-whole : (as_json : Bool) (rows : List NameRow)
+    → root_rest as_json false rows ≡ (if as_json then root_json rows else root_html rows)
 unfolding root_html
 root-whole true rows = json-lines false rows ∙ names-whole rows
 root-whole false rows = html-lines false rows

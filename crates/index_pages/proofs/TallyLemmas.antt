@@ -1,5 +1,6 @@
 -- The best claims, item by item, are the greatest ones.
-use Rattle.std.proofs.Common.{◌≡◌, ℕ, suc, ◌<◌, ◌⊎◌, inl, inr, Bool, true, false, ◌||◌, List, [], ◌∷◌, ◌++◌, length, get_or, refl, sym, ap, ◌∙◌, arith, drop, map, Bor, Option, Some, None, cond}
+use Rattle.std.proofs.Common.{◌≡◌, ℕ, suc, ◌<◌, ◌⊎◌, inl, inr, Bool, true, false, ◌||◌, List, [], ◌∷◌, ◌++◌, length, get_or, refl, sym, ap}
+use Rattle.std.proofs.Common.{◌∙◌, arith, drop, map, Bor, Option, Some, None, cond}
 use Rattle.std.proofs.lemmas.Bool.Decides.{nat_tests}
 use Rattle.std.proofs.Math.Seq.{drop-cons}
 use Rattle.std.specs.Option.{option_map_or}
@@ -9,7 +10,8 @@ use Rattle.index_pages.specs.declared.served.Served.{Served}
 use Rattle.index_pages.specs.declared.served.Served.TheVariants.{PlainHtml, Html, Json}
 use Rattle.index_pages.specs.declared.tally.Claim.{Claim}
 use Rattle.index_pages.specs.declared.tally.Tally.{Tally}
-use Rattle.index_pages.specs.Accept.{Item, item_of, items_of, cut_at, is_readable, no_claim, claim, IsAtMost, SomeOf, IsQuality, IsFirstGreatest, anything, or_anything, names, names_all_beside, specificity}
+use Rattle.index_pages.specs.Accept.{Item, item_of, items_of, cut_at, is_readable, no_claim, claim, IsAtMost, SomeOf, IsQuality}
+use Rattle.index_pages.specs.Accept.{IsFirstGreatest, anything, or_anything, names, names_all_beside, specificity}
 use Rattle.index_pages.specs.Tally.{is_above, better, best_from, after, after_all, items_left, no_tally, quality_on}
 
 -- ---- the items
@@ -19,7 +21,8 @@ unfolding after_all
 after_all-append t [] ys = refl
 after_all-append t (x ∷ xs) ys = after_all-append (after t x) xs ys
 
-pub items_left-map : (left : Option (Bor (List ℕ))) → map item_of (option_map_or (λ rest. cut_at (byte ",") rest.now) left []) ≡ items_left left
+pub items_left-map : (left : Option (Bor (List ℕ)))
+    → map item_of (option_map_or (λ rest. cut_at (byte ",") rest.now) left []) ≡ items_left left
 items_left-map None = refl
 items_left-map (Some rest) = refl
 
@@ -127,15 +130,19 @@ best_is_quality items s =
 -- ---- the choice
 
 -- the tally of all items has each type's quality
-pub tally_quality : (b : Tally) (items : List Item) → b ≡ after_all no_tally items → (served : Served) → IsQuality items served (quality_on b served)
+pub tally_quality : (b : Tally) (items : List Item) → b ≡ after_all no_tally items → (served : Served)
+    → IsQuality items served (quality_on b served)
 tally_quality b items e PlainHtml =
-    let same : b.plain.quality ≡ (best_from PlainHtml no_claim items).quality = ap (λ (t : Tally). t.plain.quality) e ∙ ap (λ (c : Claim). c.quality) (plain-after_all no_tally items) in
+    let same : b.plain.quality ≡ (best_from PlainHtml no_claim items).quality =
+    ap (λ (t : Tally). t.plain.quality) e ∙ ap (λ (c : Claim). c.quality) (plain-after_all no_tally items) in
     rw same (best_is_quality items PlainHtml)
 tally_quality b items e Html =
-    let same : b.html.quality ≡ (best_from Html no_claim items).quality = ap (λ (t : Tally). t.html.quality) e ∙ ap (λ (c : Claim). c.quality) (html-after_all no_tally items) in
+    let same : b.html.quality ≡ (best_from Html no_claim items).quality =
+    ap (λ (t : Tally). t.html.quality) e ∙ ap (λ (c : Claim). c.quality) (html-after_all no_tally items) in
     rw same (best_is_quality items Html)
 tally_quality b items e Json =
-    let same : b.json.quality ≡ (best_from Json no_claim items).quality = ap (λ (t : Tally). t.json.quality) e ∙ ap (λ (c : Claim). c.quality) (json-after_all no_tally items) in
+    let same : b.json.quality ≡ (best_from Json no_claim items).quality =
+    ap (λ (t : Tally). t.json.quality) e ∙ ap (λ (c : Claim). c.quality) (json-after_all no_tally items) in
     rw same (best_is_quality items Json)
 
 -- whether an item was readable
@@ -145,15 +152,36 @@ tally_readable b items e = ap (λ (t : Tally). t.is_readable) e ∙ readable-aft
 -- `*/*` gives each type the quality 1
 pub any_quality : (served : Served) → IsQuality (anything ∷ []) served 1000
 unfolding specificity names names_all_beside
-any_quality PlainHtml = record { top = record { specificity = 1; quality = 1000 }; none_above = (inr (refl, omega arith), tt); reached = inr (inl refl); is = refl }
-any_quality Html = record { top = record { specificity = 1; quality = 1000 }; none_above = (inr (refl, omega arith), tt); reached = inr (inl refl); is = refl }
-any_quality Json = record { top = record { specificity = 1; quality = 1000 }; none_above = (inr (refl, omega arith), tt); reached = inr (inl refl); is = refl }
+any_quality PlainHtml = record {
+  top = record { specificity = 1; quality = 1000 };
+  none_above = (inr (refl, omega arith), tt);
+  reached = inr (inl refl);
+  is = refl;
+}
+any_quality Html = record {
+  top = record { specificity = 1; quality = 1000 };
+  none_above = (inr (refl, omega arith), tt);
+  reached = inr (inl refl);
+  is = refl;
+}
+any_quality Json = record {
+  top = record { specificity = 1; quality = 1000 };
+  none_above = (inr (refl, omega arith), tt);
+  reached = inr (inl refl);
+  is = refl;
+}
 
 pub chooses_any : (items : List Item) → list_any is_readable items ≡ false
-    → (quality : Served → ℕ) × ((served : Served) → IsQuality (or_anything items) served (quality served)) × IsFirstGreatest quality (Some PlainHtml)
-chooses_any items e = (λ _. 1000, λ served. rw e (any_quality served), (omega arith, λ served. (omega arith, λ before. absurd (omega arith))))
+    → (quality : Served → ℕ) × ((served : Served) → IsQuality (or_anything items) served (quality served))
+    × IsFirstGreatest quality (Some PlainHtml)
+chooses_any items e = (
+  λ _. 1000,
+  λ served. rw e (any_quality served),
+  (omega arith, λ served. (omega arith, λ before. absurd (omega arith))),
+)
 
-pub chooses_best : (items : List Item) (b : Tally) (chosen : Option Served) → b ≡ after_all no_tally items → b.is_readable ≡ true → IsFirstGreatest (quality_on b) chosen
+pub chooses_best : (items : List Item) (b : Tally) (chosen : Option Served) → b ≡ after_all no_tally items → b.is_readable ≡ true
+    → IsFirstGreatest (quality_on b) chosen
     → (quality : Served → ℕ) × ((served : Served) → IsQuality (or_anything items) served (quality served)) × IsFirstGreatest quality chosen
 chooses_best items b chosen e readable first =
     let some : list_any is_readable items ≡ true = sym (tally_readable b items e) ∙ readable in

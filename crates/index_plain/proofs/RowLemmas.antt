@@ -19,18 +19,24 @@ held_rows_of es = filter is_held_row (map name_row es)
 abbrev pub file_rows_of : Tables → Bytes → List (Bytes × FileRecord) → List FileRow
 file_rows_of T name es = map (file_row_in T name) (filter (λ e. is_undeleted_of name e.1) es)
 
-pub held_rows_first : (es left : List (Bytes × NameRecord)) (e : Bytes × NameRecord) → es ≡ e ∷ left → held_rows_of es ≡ held_rows_of (e ∷ []) ++ held_rows_of left
+pub held_rows_first : (es left : List (Bytes × NameRecord)) (e : Bytes × NameRecord) → es ≡ e ∷ left
+    → held_rows_of es ≡ held_rows_of (e ∷ []) ++ held_rows_of left
 held_rows_first es left e split =
     ap held_rows_of split
-    ∙ elim (is_held_row (name_row e)) as (λ b. cond b (name_row e ∷ held_rows_of left) (held_rows_of left) ≡ cond b (name_row e ∷ []) [] ++ held_rows_of left) [ true ↦ refl | false ↦ refl ]
+    ∙ elim (is_held_row (name_row e)) as (λ b. cond b (name_row e ∷ held_rows_of left) (held_rows_of left) ≡ cond b (name_row e ∷ []) []
+    ++ held_rows_of left) [ true ↦ refl | false ↦ refl ]
 
-pub file_rows_first : (T : Tables) (name : Bytes) (es left : List (Bytes × FileRecord)) (e : Bytes × FileRecord) → es ≡ e ∷ left → file_rows_of T name es ≡ rows_of_file T name e ++ file_rows_of T name left
+pub file_rows_first : (T : Tables) (name : Bytes) (es left : List (Bytes × FileRecord)) (e : Bytes × FileRecord) → es ≡ e ∷ left
+    → file_rows_of T name es ≡ rows_of_file T name e ++ file_rows_of T name left
 file_rows_first T name es left e split =
     ap (file_rows_of T name) split
-    ∙ elim (is_undeleted_of name e.1) as (λ b. map (file_row_in T name) (cond b (e ∷ filter (λ f. is_undeleted_of name f.1) left) (filter (λ f. is_undeleted_of name f.1) left)) ≡ cond b (file_row_in T name e ∷ []) [] ++ file_rows_of T name left) [ true ↦ refl | false ↦ refl ]
+    ∙ elim (is_undeleted_of name e.1) as (λ b. map (file_row_in T name)
+    (cond b (e ∷ filter (λ f. is_undeleted_of name f.1) left) (filter (λ f. is_undeleted_of name f.1) left))
+    ≡ cond b (file_row_in T name e ∷ []) [] ++ file_rows_of T name left) [ true ↦ refl | false ↦ refl ]
 
 -- a taker that stops at the one row
-pub stopped_at_one : {K R : Type 0} (takes stops : K → R → K → Type 0) (rows : List R) (row : R) (before after : K) → rows ≡ row ∷ [] → stops before row after → StoppedAmong takes stops rows before after
+pub stopped_at_one : {K R : Type 0} (takes stops : K → R → K → Type 0) (rows : List R) (row : R) (before after : K) → rows ≡ row ∷ []
+    → stops before row after → StoppedAmong takes stops rows before after
 stopped_at_one takes stops rows row before after one stopped = (
   row ∷ [],
   [],

@@ -1,9 +1,11 @@
 -- What `BTreeMap`'s clauses say of the finite map that it is.
-use Rattle.std.proofs.Common.{◌≡◌, Bool, true, false, cond, refl, sym, ap, ◌∙◌, List, [], ◌∷◌, map, T, ◌&&◌, Option, Some, None, IsSome, is_some}
+use Rattle.std.proofs.Common.{◌≡◌, Bool, true, false, cond, refl, sym, ap, ◌∙◌, List, [], ◌∷◌, map, T, ◌&&◌, Option, Some, None, IsSome}
+use Rattle.std.proofs.Common.{is_some}
 use Rattle.std.specs.declared.cmp.Ordering.{Ordering}
 use Rattle.std.specs.Ordering.{eq_by_cmp, is_eq}
 use Rattle.std.specs.Cmp.{IsTotalOrder, eq_by_cmp_equiv, Equal-is, tied_itself}
-use Rattle.std.specs.FinMap.{FinMap, IsAntisymmetric, entries, entries_sorted, is_sorted, get-entries, get, insert, remove, find, get-from_entries, get-insert, get-remove, same_map}
+use Rattle.std.specs.FinMap.{FinMap, IsAntisymmetric, entries, entries_sorted, is_sorted, get-entries, get, insert, remove, find}
+use Rattle.std.specs.FinMap.{get-from_entries, get-insert, get-remove, same_map}
 use Rattle.std.specs.FinMap.Entries.{below_all, same_entries}
 use Rattle.std.specs.List.{AllByRecursion}
 use Rattle.std.specs.List.Sorted.{IsStrictlySortedBy}
@@ -41,9 +43,11 @@ module _ {K X : Type 0} {R : K → K → Ordering} (o : IsTotalOrder R) where
   over false u v w = refl
 
   -- what stood at a key comes back
-  pub take_back : IsAntisymmetric R → (m n : FinMap R X) (k : K) (v : X) (former : Option X) → former ≡ get m k → n ≡ insert m k v → with_at n k former ≡ m
+  pub take_back : IsAntisymmetric R → (m n : FinMap R X) (k : K) (v : X) (former : Option X) → former ≡ get m k → n ≡ insert m k v
+      → with_at n k former ≡ m
   take_back exact m n k v former is put = same_map o exact _ _ (λ q.
-      answers former q ∙ ap (λ (t : FinMap R X). cond (eq_by_cmp R q k) former (get t q)) put ∙ ap (cond (eq_by_cmp R q k) former) (get-insert o m k v q) ∙ over (eq_by_cmp R q k) former (Some v) _ ∙ here q)
+      answers former q ∙ ap (λ (t : FinMap R X). cond (eq_by_cmp R q k) former (get t q)) put
+      ∙ ap (cond (eq_by_cmp R q k) former) (get-insert o m k v q) ∙ over (eq_by_cmp R q k) former (Some v) _ ∙ here q)
     where
       answers : (former : Option X) (q : K) → get (with_at n k former) q ≡ cond (eq_by_cmp R q k) former (get n q)
       answers None q = get-remove o n k q
@@ -57,7 +61,8 @@ module _ {K X : Type 0} {R : K → K → Ordering} (o : IsTotalOrder R) where
 
   -- a key that was put is there
   pub is_put : (m n : FinMap R X) (k : K) (v : X) → n ≡ insert m k v → IsSome (get n k)
-  is_put m n k v put = ap (λ (t : FinMap R X). is_some (get t k)) put ∙ ap is_some (get-insert o m k v k) ∙ ap (λ r. is_some (cond (is_eq r) (Some v) (get m k))) (tied_itself o k)
+  is_put m n k v put = ap (λ (t : FinMap R X). is_some (get t k)) put ∙ ap is_some (get-insert o m k v k)
+      ∙ ap (λ r. is_some (cond (is_eq r) (Some v) (get m k))) (tied_itself o k)
 
   below : (k : K) (es : List (K × X)) → AllByRecursion (λ y. R k y ≡ Less) (map (λ e. e.0) es) → T (below_all R k es)
   below k [] h = tt
@@ -70,7 +75,8 @@ module _ {K X : Type 0} {R : K → K → Ordering} (o : IsTotalOrder R) where
 
   -- a walk of the finite map is one of the `BTreeMap`
   pub entries_map : IsAntisymmetric R → (m : BTreeMap K X) → tree.IsOrdered R m → entries (map_of R m) ≡ m.entries
-  entries_map exact m up = same_entries R o exact (entries (map_of R m)) m.entries (entries_sorted (map_of R m)) (rising m.entries up) (λ q. sym (get-entries (map_of R m) q) ∙ get-from_entries o m.entries q)
+  entries_map exact m up = same_entries R o exact (entries (map_of R m)) m.entries (entries_sorted (map_of R m)) (rising m.entries up)
+      (λ q. sym (get-entries (map_of R m) q) ∙ get-from_entries o m.entries q)
 
 -- what the calls of `table.rt` rest on
 pub ruleset trees = (get_map, map_insert, map_remove, take_back, is_put)

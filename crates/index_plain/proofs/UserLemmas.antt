@@ -20,7 +20,8 @@ module _ (T : Tables) (bearers : Pairs) (are : AreBearers T.users bearers) (toke
       sym (ap (has_token token) found) ∙ sym (are token user) ∙ ap is_some (none user)
 
   -- a user who is there is known, and bears it
-  pub IsBearer-there : (user : Bytes) (known : UserRecord) → is_some (get bearers (token, user)) ≡ true → get T.users user ≡ Some known → IsBearer T token (Some (user, known))
+  pub IsBearer-there : (user : Bytes) (known : UserRecord) → is_some (get bearers (token, user)) ≡ true → get T.users user ≡ Some known
+      → IsBearer T token (Some (user, known))
   IsBearer-there user known there found =
       (found, sym (ap (has_token token) found) ∙ sym (are token user) ∙ there)
 
@@ -28,5 +29,6 @@ module _ (T : Tables) (bearers : Pairs) (are : AreBearers T.users bearers) (toke
   is_known user there none =
       false≢true (sym (ap (has_token token) none) ∙ sym (are token user) ∙ there)
 
-  pub IsBearer-missed : {R : Type 0} (part : R → Bytes × UserRecord) (found : Option R) → found ≡ None → ((user : Bytes) → get bearers (token, user) ≡ None) → IsBearer T token (option_map part found)
+  pub IsBearer-missed : {R : Type 0} (part : R → Bytes × UserRecord) (found : Option R) → found ≡ None
+      → ((user : Bytes) → get bearers (token, user) ≡ None) → IsBearer T token (option_map part found)
   IsBearer-missed part found none nobody = subst (λ it. IsBearer T token (option_map part it)) (sym none) (IsBearer-none nobody)

@@ -1,5 +1,6 @@
 -- An accepted call: no refusal applies, and it is not so already.
-use Rattle.std.proofs.Common.{◌≡◌, Bool, true, false, cond, not, ◌&&◌, ◌||◌, ◌==◌, inl, inr, refl, sym, ap, ◌∙◌, List, [], ◌∷◌, Option, Some, None, is_some, find, unwrap_or}
+use Rattle.std.proofs.Common.{◌≡◌, Bool, true, false, cond, not, ◌&&◌, ◌||◌, ◌==◌, inl, inr, refl, sym, ap, ◌∙◌, List, [], ◌∷◌, Option}
+use Rattle.std.proofs.Common.{Some, None, is_some, find, unwrap_or}
 use Rattle.std.proofs.lemmas.Bool.{false≢true, cases_Bool}
 use Rattle.index_rules.specs.declared.call.Call.{Call}
 use Rattle.index_rules.specs.declared.answer.Refusal.{Refusal}
@@ -26,7 +27,8 @@ abbrev pub is_among : Refusal → List Refusal → Bool
 is_among refusal [] = false
 is_among refusal (one ∷ others) = (number_of refusal == number_of one) || is_among refusal others
 
-pub NonePasses-among : (p : Refusal → Bool) (xs : List Refusal) → NonePasses p xs → (refusal : Refusal) → is_among refusal xs ≡ true → p refusal ≡ false
+pub NonePasses-among : (p : Refusal → Bool) (xs : List Refusal) → NonePasses p xs → (refusal : Refusal) → is_among refusal xs ≡ true
+    → p refusal ≡ false
 NonePasses-among p [] none refusal there = absurd (false≢true there)
 NonePasses-among p (x ∷ xs) none refusal there = elim (cases_Bool (number_of refusal == number_of x)) [
   | inl e ↦ ap p (number_of-is refusal x e) ∙ none.0
@@ -51,7 +53,8 @@ pub accepted : (c : Call) (f : Facts) → verdict_on c f ≡ Accept → HasPasse
 accepted c f e =
     let both = decided-accept (find (applies c.at c.request f) (refusals c)) (is_already c.request f) e in
     record {
-      not_refused = NonePasses-among (applies c.at c.request f) (refusals c) (NonePasses-find (applies c.at c.request f) (refusals c) both.0);
+      not_refused = NonePasses-among (applies c.at c.request f) (refusals c)
+          (NonePasses-find (applies c.at c.request f) (refusals c) both.0);
       not_already = both.1;
     }
 

@@ -1,5 +1,6 @@
 -- The entries of one name, with those on users, make of that name what the whole history makes of it.
-use Rattle.std.proofs.Common.{◌≡◌, ℕ, Bool, true, false, cond, ◌&&◌, inl, inr, refl, sym, ap, ◌∙◌, List, [], ◌∷◌, length, Option, Some, None, find, option_map}
+use Rattle.std.proofs.Common.{◌≡◌, ℕ, Bool, true, false, cond, ◌&&◌, inl, inr, refl, sym, ap, ◌∙◌, List, [], ◌∷◌, length, Option, Some}
+use Rattle.std.proofs.Common.{None, find, option_map}
 use Rattle.std.specs.Option.{option_or}
 use Rattle.std.proofs.lemmas.Bool.{false≢true}
 use Rattle.index_names.specs.Project.{read_name}
@@ -8,7 +9,9 @@ use Rattle.index_names.specs.Release.{read_release}
 use Rattle.index_digest.specs.Digest.{read_digest}
 use Rattle.index_retention.specs.Attempts.{attempt_of}
 use Rattle.index_rules.specs.declared.call.Request.{Request}
-use Rattle.index_rules.specs.declared.call.Request.TheVariants.{AddUser, SetToken, SetQuota, Claim, AddOwner, RemoveOwner, Upload, Delete, BanFile, Yank, Unyank, Relinquish, Prohibit, Allow, OpenCase, RecordAttempt, Transfer, CloseCase}
+use Rattle.index_rules.specs.declared.call.Request.TheVariants.{AddUser, SetToken, SetQuota, Claim, AddOwner, RemoveOwner, Upload, Delete}
+use Rattle.index_rules.specs.declared.call.Request.TheVariants.{BanFile, Yank, Unyank, Relinquish, Prohibit, Allow, OpenCase, RecordAttempt}
+use Rattle.index_rules.specs.declared.call.Request.TheVariants.{Transfer, CloseCase}
 use Rattle.index_rules.specs.declared.records.UserRecord.{UserRecord}
 use Rattle.index_rules.specs.Maps.{Bytes, same}
 use Rattle.index_rules.specs.Users.{read_user}
@@ -18,9 +21,11 @@ use Rattle.index_rules.specs.Effect.{or_empty}
 use Rattle.index_rules.specs.Projects.{first_quota}
 use Rattle.index_rules.specs.History.{History, Entry, begins, more, is_read_as}
 use Rattle.index_rules.specs.PastUsers.{user_after, user_by, users_after, users_by, bearer_after}
-use Rattle.index_rules.specs.PastNames.{State, Free, Held, Prohibited, state_after, state_by, shown_after, shown_by, quota_after, quota_by, uploads_after, uploads_by, is_given_after, is_given_by, reason_after, reason_by}
+use Rattle.index_rules.specs.PastNames.{State, Free, Held, Prohibited, state_after, state_by, shown_after, shown_by, quota_after, quota_by}
+use Rattle.index_rules.specs.PastNames.{uploads_after, uploads_by, is_given_after, is_given_by, reason_after, reason_by}
 use Rattle.index_rules.specs.PastCases.{Case, case_after, case_by, with_attempt, is_owners_request}
-use Rattle.index_rules.specs.PastFiles.{first_upload_after, first_upload_by, is_undeleted_after, is_undeleted_by, is_banned_by, is_banned_after, requires_after, requires_by}
+use Rattle.index_rules.specs.PastFiles.{first_upload_after, first_upload_by, is_undeleted_after, is_undeleted_by, is_banned_by}
+use Rattle.index_rules.specs.PastFiles.{is_banned_after, requires_after, requires_by}
 use Rattle.index_rules.specs.Laws.{is_kept, history_of_name}
 use Rattle.index_rules.proofs.KeyLemmas.{same-refl, cases_same}
 
@@ -72,16 +77,27 @@ module _ (n : Bytes) where
   owners_left (CloseCase name) other = refl
   owners_left r other = other
 
-  pub case_left : (r : Request) (actor : Bytes) (at : ℕ) → is_kept r n ≡ false → (before : Option Case) → case_by r actor at n before ≡ before
+  pub case_left : (r : Request) (actor : Bytes) (at : ℕ) → is_kept r n ≡ false → (before : Option Case)
+      → case_by r actor at n before ≡ before
   case_left (OpenCase name kind contact work why) actor at other before =
-      ap (λ b. cond b (Some (record { kind = kind; candidate = actor; contact = contact; work = work; why = why; opened = at; attempts = [] })) before) other
-  case_left (RecordAttempt name means sent) actor at other before = ap (λ b. cond b (option_map (with_attempt (attempt_of means sent at)) before) before) other
+      ap (λ b. cond b (Some (record {
+        kind = kind;
+        candidate = actor;
+        contact = contact;
+        work = work;
+        why = why;
+        opened = at;
+        attempts = [];
+      })) before) other
+  case_left (RecordAttempt name means sent) actor at other before =
+      ap (λ b. cond b (option_map (with_attempt (attempt_of means sent at)) before) before) other
   case_left (CloseCase name) actor at other before = ap (λ b. cond b None before) other
   case_left (Transfer name quiet) actor at other before = ap (λ b. cond b None before) other
   case_left (Prohibit name) actor at other before = ap (λ b. cond b None before) other
   case_left r actor at other before = ap (λ b. cond b None before) (owners_left r other)
 
-  pub given_left : (r : Request) (actor : Bytes) (candidate : Option Bytes) (u : Bytes) → is_kept r n ≡ false → (before : Bool) → is_given_by r actor candidate n u before ≡ before
+  pub given_left : (r : Request) (actor : Bytes) (candidate : Option Bytes) (u : Bytes) → is_kept r n ≡ false → (before : Bool)
+      → is_given_by r actor candidate n u before ≡ before
   given_left (Claim name) actor candidate u other before = ap (λ b. cond b (same u actor) before) other
   given_left (AddOwner name user) actor candidate u other before = ap (λ b. cond (b && is_read_as (read_user user) u) true before) other
   given_left (RemoveOwner name user) actor candidate u other before = ap (λ b. cond (b && is_read_as (read_user user) u) false before) other
@@ -90,7 +106,8 @@ module _ (n : Bytes) where
 
   pub yanked_left : (r : Request) (release : Bytes) → is_kept r n ≡ false → (before : Option Bytes) → reason_by r n release before ≡ before
   yanked_left (Claim name) release other before = ap (λ b. cond b None before) other
-  yanked_left (Yank name yanked reason) release other before = ap (λ b. cond (b && is_read_as (read_release yanked) release) (Some reason) before) other
+  yanked_left (Yank name yanked reason) release other before =
+      ap (λ b. cond (b && is_read_as (read_release yanked) release) (Some reason) before) other
   yanked_left (Unyank name yanked) release other before = ap (λ b. cond (b && is_read_as (read_release yanked) release) None before) other
   yanked_left r release other before = refl
 
@@ -105,7 +122,8 @@ module _ (n : Bytes) where
 
     pub known_left : (r : Request) → is_kept r n ≡ false → (before : Option (Bytes × ℕ)) → first_upload_by r f before ≡ before
     known_left (Upload file sha256 body requires) other before =
-        ap (λ b. option_or before (cond b (Some (or_empty (read_digest sha256), length body)) None)) (other_file (read_file file) other) ∙ or_none before
+        ap (λ b. option_or before (cond b (Some (or_empty (read_digest sha256), length body)) None)) (other_file (read_file file) other)
+        ∙ or_none before
       where
         or_none : (o : Option (Bytes × ℕ)) → option_or o None ≡ o
         or_none None = refl
@@ -136,7 +154,8 @@ word-only : {A : Type 0} (n : Bytes) (word : History → A) (by : Entry → A �
     → (h : History) → word (history_of_name n h) ≡ word h
 word-only n word by step left (begins user token) = refl
 word-only n word by step left (more h e) =
-    elim (is_kept e.call.request n) as (λ b. is_kept e.call.request n ≡ b → word (cond b (more (history_of_name n h) e) (history_of_name n h)) ≡ word (more h e)) [
+    elim (is_kept e.call.request n) as (λ b. is_kept e.call.request n ≡ b
+    → word (cond b (more (history_of_name n h) e) (history_of_name n h)) ≡ word (more h e)) [
       | true ↦ λ _. step (history_of_name n h) e ∙ ap (by e) (word-only n word by step left h) ∙ sym (step h e)
       | false ↦ λ other. word-only n word by step left h ∙ sym (step h e ∙ left e other (word h))
     ] refl
@@ -161,31 +180,43 @@ module _ (n : Bytes) where
   quota-only = word-only n (λ g. quota_after g n) (λ e. quota_by e.call.request n) (λ g e. refl) (λ e. quota_left n e.call.request)
 
   pub uploads-only : (h : History) → uploads_after (history_of_name n h) n ≡ uploads_after h n
-  uploads-only = word-only n (λ g. uploads_after g n) (λ e. uploads_by e.call.request e.call.at n) (λ g e. refl) (λ e. uploads_left n e.call.request e.call.at)
+  uploads-only = word-only n (λ g. uploads_after g n) (λ e. uploads_by e.call.request e.call.at n) (λ g e. refl)
+      (λ e. uploads_left n e.call.request e.call.at)
 
   pub case-only : (h : History) → case_after (history_of_name n h) n ≡ case_after h n
-  case-only = word-only n (λ g. case_after g n) (λ e. case_by e.call.request e.actor e.call.at n) (λ g e. refl) (λ e. case_left n e.call.request e.actor e.call.at)
+  case-only = word-only n (λ g. case_after g n) (λ e. case_by e.call.request e.actor e.call.at n) (λ g e. refl)
+      (λ e. case_left n e.call.request e.actor e.call.at)
 
   -- a transfer gives the name to the candidate of its case, so the case goes along
   pub given-only : (h : History) (u : Bytes) → is_given_after (history_of_name n h) n u ≡ is_given_after h n u
   given-only h u =
-      let by : Entry → Option Case × Bool → Option Case × Bool = λ e before.
-      (case_by e.call.request e.actor e.call.at n before.0, is_given_by e.call.request e.actor (option_map (λ case. case.candidate) before.0) n u before.1) in
+      let by : Entry → Option Case × Bool → Option Case × Bool = λ e before. (
+        case_by e.call.request e.actor e.call.at n before.0,
+        is_given_by e.call.request e.actor (option_map (λ case. case.candidate) before.0) n u before.1,
+      ) in
       ap (λ both. both.1) (word-only n (λ g. (case_after g n, is_given_after g n u)) by (λ g e. refl) (λ e other before.
-      λ i. (case_left n e.call.request e.actor e.call.at other before.0 i, given_left n e.call.request e.actor (option_map (λ case. case.candidate) before.0) u other before.1 i)) h)
+      λ i. (
+        case_left n e.call.request e.actor e.call.at other before.0 i,
+        given_left n e.call.request e.actor (option_map (λ case. case.candidate) before.0) u other before.1 i,
+      )) h)
 
   pub yanked-only : (h : History) (r : Bytes) → reason_after (history_of_name n h) n r ≡ reason_after h n r
-  yanked-only h r = word-only n (λ g. reason_after g n r) (λ e. reason_by e.call.request n r) (λ g e. refl) (λ e. yanked_left n e.call.request r) h
+  yanked-only h r = word-only n (λ g. reason_after g n r) (λ e. reason_by e.call.request n r) (λ g e. refl)
+      (λ e. yanked_left n e.call.request r) h
 
   module _ (h : History) (f : Bytes) (project : project_of f ≡ n) where
     pub known-only : first_upload_after (history_of_name n h) f ≡ first_upload_after h f
-    known-only = word-only n (λ g. first_upload_after g f) (λ e. first_upload_by e.call.request f) (λ g e. refl) (λ e. known_left n f project e.call.request) h
+    known-only = word-only n (λ g. first_upload_after g f) (λ e. first_upload_by e.call.request f) (λ g e. refl)
+        (λ e. known_left n f project e.call.request) h
 
     pub undeleted-only : is_undeleted_after (history_of_name n h) f ≡ is_undeleted_after h f
-    undeleted-only = word-only n (λ g. is_undeleted_after g f) (λ e. is_undeleted_by e.call.request f) (λ g e. refl) (λ e. undeleted_left n f project e.call.request) h
+    undeleted-only = word-only n (λ g. is_undeleted_after g f) (λ e. is_undeleted_by e.call.request f) (λ g e. refl)
+        (λ e. undeleted_left n f project e.call.request) h
 
     pub banned-only : is_banned_after (history_of_name n h) f ≡ is_banned_after h f
-    banned-only = word-only n (λ g. is_banned_after g f) (λ e. is_banned_by e.call.request f) (λ g e. refl) (λ e. banned_left n f project e.call.request) h
+    banned-only = word-only n (λ g. is_banned_after g f) (λ e. is_banned_by e.call.request f) (λ g e. refl)
+        (λ e. banned_left n f project e.call.request) h
 
     pub requires-only : requires_after (history_of_name n h) f ≡ requires_after h f
-    requires-only = word-only n (λ g. requires_after g f) (λ e. requires_by e.call.request f) (λ g e. refl) (λ e. requires_left n f project e.call.request) h
+    requires-only = word-only n (λ g. requires_after g f) (λ e. requires_by e.call.request f) (λ g e. refl)
+        (λ e. requires_left n f project e.call.request) h

@@ -27,23 +27,28 @@ use Rattle.index_rules.proofs.StepFiles.{known-here}
 use Rattle.index_rules.proofs.StandsOn.{tables_of, verdict_agrees, legal_made}
 
 -- what was known stays so
-known_before : (r : Request) (f : Bytes) (before : Option (Bytes × ℕ)) (first : Bytes × ℕ) → before ≡ Some first → first_upload_by r f before ≡ Some first
+known_before : (r : Request) (f : Bytes) (before : Option (Bytes × ℕ)) (first : Bytes × ℕ) → before ≡ Some first
+    → first_upload_by r f before ≡ Some first
 known_before (Upload file sha256 body requires) f before first is =
     ap (λ o. option_or o (cond (is_read_as (read_file file) f) (Some (or_empty (read_digest sha256), length body)) None)) is
 known_before r f before first is = is
 
 -- the digest and the size of an accepted upload's body are known after it
-known_now : (T : Tables) (h : History) → ((file : Bytes) → get T.files file ≡ file_after h file) → (at : ℕ) (token : Bytes) (r : Request) (f : Bytes) (first : Bytes × ℕ)
-    → verdict_now T (record { at = at; token = token; request = r }) ≡ Accept → IsUploadOf r f first → first_upload_by r f (first_upload_after h f) ≡ Some first
+known_now : (T : Tables) (h : History) → ((file : Bytes) → get T.files file ≡ file_after h file)
+    → (at : ℕ) (token : Bytes) (r : Request) (f : Bytes) (first : Bytes × ℕ)
+    → verdict_now T (record { at = at; token = token; request = r }) ≡ Accept → IsUploadOf r f first
+    → first_upload_by r f (first_upload_after h f) ≡ Some first
 known_now T h files at token (Upload file declared body requires) f first accepts is =
     let c : Call = record { at = at; token = token; request = Upload file declared body requires } in
     let all = accepted c (facts_in T c) accepts in
     let reads : read_file file ≡ Some file = read_itself file (all.not_refused BadFileName refl) in
     let both : Some f ≡ Some file = sym is.0 ∙ reads in
     let here : f ≡ file = cc in
-    let digest : sha256 body ≡ or_empty (read_digest declared) = digest_is (read_digest declared) body (all.not_refused BadDigest refl) (all.not_refused DigestMismatch refl) in
+    let digest : sha256 body ≡ or_empty (read_digest declared) =
+    digest_is (read_digest declared) body (all.not_refused BadDigest refl) (all.not_refused DigestMismatch refl) in
     (λ i. first_upload_by (Upload file declared body requires) (here i) (first_upload_after h (here i)))
-    ∙ known-here T h files at token [] file declared body requires reads (all.not_refused BadDigest refl) (all.not_refused FileNameTaken refl)
+    ∙ known-here T h files at token [] file declared body requires reads (all.not_refused BadDigest refl)
+    (all.not_refused FileNameTaken refl)
     ∙ ap (λ known. Some (known, length body)) (sym digest)
     ∙ ap Some (sym is.1)
 known_now T h files at token r f first accepts is = absurd is
@@ -53,8 +58,10 @@ pub known_upload : (h : History) → IsLegal h → (f : Bytes) (first : Bytes ×
 known_upload (begins user token) legal f first is = absurd is
 known_upload (more h e) legal f first (inl is) =
     let made = legal_made h legal.0 in
-    known_now (tables_of h) h made.stands.files e.call.at e.call.token e.call.request f first (verdict_agrees (tables_of h) h made.sound made.stands e.call ∙ legal.1) is
-known_upload (more h e) legal f first (inr is) = known_before e.call.request f (first_upload_after h f) first (known_upload h legal.0 f first is)
+    known_now (tables_of h) h made.stands.files e.call.at e.call.token e.call.request f first
+    (verdict_agrees (tables_of h) h made.sound made.stands e.call ∙ legal.1) is
+known_upload (more h e) legal f first (inr is) =
+    known_before e.call.request f (first_upload_after h f) first (known_upload h legal.0 f first is)
 
 pub binds_files : (h : History) → IsLegal h → BindsFiles h
 binds_files h legal f first second one other =
@@ -62,11 +69,13 @@ binds_files h legal f first second one other =
 
 -- ---- what an upload declares
 
-is_declared : (declared : Option Bytes) (body : Bytes) → is_none declared ≡ false → sha256 body ≡ or_empty declared → declared ≡ Some (sha256 body)
+is_declared : (declared : Option Bytes) (body : Bytes) → is_none declared ≡ false → sha256 body ≡ or_empty declared
+    → declared ≡ Some (sha256 body)
 is_declared None body unread is = absurd (true≢false unread)
 is_declared (Some digest) body unread is = ap Some (sym is)
 
-pub declares_body : (h : History) (at : ℕ) (token : Bytes) (r : Request) → verdict_after h (record { at = at; token = token; request = r }) ≡ Accept → DeclaresBody r
+pub declares_body : (h : History) (at : ℕ) (token : Bytes) (r : Request)
+    → verdict_after h (record { at = at; token = token; request = r }) ≡ Accept → DeclaresBody r
 declares_body h at token (Upload file declared body requires) accepts =
     let c : Call = record { at = at; token = token; request = Upload file declared body requires } in
     let all = accepted c (facts_after h c) accepts in
@@ -110,4 +119,7 @@ no_upload h at token r accepts f first is banned = is
 
 pub keeps_bans : (h : History) → IsLegal h → KeepsBans h
 keeps_bans (begins user token) legal = tt
-keeps_bans (more h e) legal = (keeps_bans h legal.0, λ f first is has. no_upload h e.call.at e.call.token e.call.request legal.1 f first is (banned_file h f has))
+keeps_bans (more h e) legal = (
+  keeps_bans h legal.0,
+  λ f first is has. no_upload h e.call.at e.call.token e.call.request legal.1 f first is (banned_file h f has),
+)

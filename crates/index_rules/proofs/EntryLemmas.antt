@@ -1,5 +1,6 @@
 -- Entries of maps that pass a test, and lists that a test passes whole.
-use Rattle.std.proofs.Common.{◌≡◌, Bool, true, false, cond, not, ◌&&◌, ◌||◌, inl, inr, refl, sym, ap, ◌∙◌, List, [], ◌∷◌, T, Some, None, find}
+use Rattle.std.proofs.Common.{◌≡◌, Bool, true, false, cond, not, ◌&&◌, ◌||◌, inl, inr, refl, sym, ap, ◌∙◌, List, [], ◌∷◌, T, Some, None}
+use Rattle.std.proofs.Common.{find}
 use Rattle.std.specs.List.{list_any, list_all}
 use Rattle.std.specs.Ordering.{eq_by_cmp, is_eq, is_lt}
 use Rattle.std.specs.declared.cmp.Ordering.{Ordering}
@@ -54,49 +55,59 @@ above_is_other k q low = elim (cases_Bool (same q k)) [
 
 module _ {X : Type 0} where
   -- a key below all is none of them
-  below_is_other : (k : Bytes) (es : List (Bytes × X)) (test : Bytes × X → Bool) (e : Bytes × X) → T (below_all bytes_cmp k es) → find test es ≡ Some e → same e.0 k ≡ false
+  below_is_other : (k : Bytes) (es : List (Bytes × X)) (test : Bytes × X → Bool) (e : Bytes × X) → T (below_all bytes_cmp k es)
+      → find test es ≡ Some e → same e.0 k ≡ false
   below_is_other k [] test e low found = cc
   below_is_other k (x ∷ es) test e low found = elim (test x) as (λ b. cond b (Some x) (find test es) ≡ Some e → same e.0 k ≡ false) [
     | true ↦ λ found. let is : x ≡ e = cc in ap (λ (y : Bytes × X). same y.0 k) (sym is) ∙ above_is_other k x.0 (both_hold _ _ low).0
     | false ↦ λ found. below_is_other k es test e (both_hold _ _ low).1 found
   ] found
 
-  found_at : (es : List (Bytes × X)) (test : Bytes × X → Bool) (e : Bytes × X) → T (is_sorted bytes_cmp es) → find test es ≡ Some e → fin.find bytes_cmp e.0 es ≡ Some e.1
+  found_at : (es : List (Bytes × X)) (test : Bytes × X → Bool) (e : Bytes × X) → T (is_sorted bytes_cmp es) → find test es ≡ Some e
+      → fin.find bytes_cmp e.0 es ≡ Some e.1
   found_at [] test e sorted found = cc
-  found_at (x ∷ es) test e sorted found = elim (test x) as (λ b. cond b (Some x) (find test es) ≡ Some e → fin.find bytes_cmp e.0 (x ∷ es) ≡ Some e.1) [
-    | true ↦ λ found. let is : x ≡ e = cc in
-        (λ i. cond (eq_by_cmp bytes_cmp (sym is i).0 x.0) (Some x.1) (fin.find bytes_cmp (sym is i).0 es))
-        ∙ ap (λ b. cond b (Some x.1) (fin.find bytes_cmp x.0 es)) (is_eq-slice_cmp x.0 x.0 ∙ same-refl x.0) ∙ ap (λ (y : Bytes × X). Some y.1) is
-    | false ↦ λ found.
-        ap (λ b. cond b (Some x.1) (fin.find bytes_cmp e.0 es)) (is_eq-slice_cmp e.0 x.0 ∙ below_is_other x.0 es test e (both_hold _ _ sorted).0 found)
-        ∙ found_at es test e (both_hold _ _ sorted).1 found
-  ] found
+  found_at (x ∷ es) test e sorted found = elim (test x) as (λ b. cond b (Some x) (find test es) ≡ Some e
+      → fin.find bytes_cmp e.0 (x ∷ es) ≡ Some e.1) [
+        | true ↦ λ found. let is : x ≡ e = cc in
+            (λ i. cond (eq_by_cmp bytes_cmp (sym is i).0 x.0) (Some x.1) (fin.find bytes_cmp (sym is i).0 es))
+            ∙ ap (λ b. cond b (Some x.1) (fin.find bytes_cmp x.0 es)) (is_eq-slice_cmp x.0 x.0 ∙ same-refl x.0)
+            ∙ ap (λ (y : Bytes × X). Some y.1) is
+        | false ↦ λ found.
+            ap (λ b. cond b (Some x.1) (fin.find bytes_cmp e.0 es))
+            (is_eq-slice_cmp e.0 x.0 ∙ below_is_other x.0 es test e (both_hold _ _ sorted).0 found)
+            ∙ found_at es test e (both_hold _ _ sorted).1 found
+      ] found
 
   -- an entry that passes is found by its key
   pub get-found : (m : Map X) (test : Bytes × X → Bool) (e : Bytes × X) → find test (entries m) ≡ Some e → get m e.0 ≡ Some e.1
   get-found m test e found = get-entries m e.0 ∙ found_at (entries m) test e (entries_sorted m) found
 
-  missed_at : (es : List (Bytes × X)) (test : Bytes × X → Bool) (k : Bytes) (v : X) → find test es ≡ None → fin.find bytes_cmp k es ≡ Some v → test (k, v) ≡ false
+  missed_at : (es : List (Bytes × X)) (test : Bytes × X → Bool) (k : Bytes) (v : X) → find test es ≡ None → fin.find bytes_cmp k es ≡ Some v
+      → test (k, v) ≡ false
   missed_at [] test k v missed found = cc
-  missed_at (x ∷ es) test k v missed found = elim (test x) as (λ b. test x ≡ b → cond b (Some x) (find test es) ≡ None → test (k, v) ≡ false) [
-    | true ↦ λ t missed. cc
-    | false ↦ λ t missed. elim (eq_by_cmp bytes_cmp k x.0) as (λ b. eq_by_cmp bytes_cmp k x.0 ≡ b → cond b (Some x.1) (fin.find bytes_cmp k es) ≡ Some v → test (k, v) ≡ false) [
-      | true ↦ λ tied found.
-          let keys : k ≡ x.0 = same-is k x.0 (sym (is_eq-slice_cmp k x.0) ∙ tied) in
-          let values : x.1 ≡ v = cc in
-          (λ i. test (keys i, sym values i)) ∙ t
-      | false ↦ λ _ found. missed_at es test k v missed found
-    ] refl found
-  ] refl missed
+  missed_at (x ∷ es) test k v missed found = elim (test x) as (λ b. test x ≡ b → cond b (Some x) (find test es) ≡ None
+      → test (k, v) ≡ false) [
+        | true ↦ λ t missed. cc
+        | false ↦ λ t missed. elim (eq_by_cmp bytes_cmp k x.0) as (λ b. eq_by_cmp bytes_cmp k x.0 ≡ b
+            → cond b (Some x.1) (fin.find bytes_cmp k es) ≡ Some v → test (k, v) ≡ false) [
+              | true ↦ λ tied found.
+                  let keys : k ≡ x.0 = same-is k x.0 (sym (is_eq-slice_cmp k x.0) ∙ tied) in
+                  let values : x.1 ≡ v = cc in
+                  (λ i. test (keys i, sym values i)) ∙ t
+              | false ↦ λ _ found. missed_at es test k v missed found
+            ] refl found
+      ] refl missed
 
   -- if no entry passes, none that is found by its key does
-  pub get-missed : (m : Map X) (test : Bytes × X → Bool) (k : Bytes) (v : X) → find test (entries m) ≡ None → get m k ≡ Some v → test (k, v) ≡ false
+  pub get-missed : (m : Map X) (test : Bytes × X → Bool) (k : Bytes) (v : X) → find test (entries m) ≡ None → get m k ≡ Some v
+      → test (k, v) ≡ false
   get-missed m test k v missed found = missed_at (entries m) test k v missed (sym (get-entries m k) ∙ found)
 
 -- ---- the pairs with one first part
 
 module _ (p : Bytes × Bytes → Bool) where
-  all_pairs_at : (ks : List (Bytes × Bytes)) (n v : Bytes) → list_all p ks ≡ true → list_any (eq_by_cmp pair_cmp (n, v)) ks ≡ true → p (n, v) ≡ true
+  all_pairs_at : (ks : List (Bytes × Bytes)) (n v : Bytes) → list_all p ks ≡ true → list_any (eq_by_cmp pair_cmp (n, v)) ks ≡ true
+      → p (n, v) ≡ true
   all_pairs_at [] n v all h = absurd (false≢true h)
   all_pairs_at (k ∷ ks) n v all h = elim (or_cases _ _ h) [
     | inl e ↦
@@ -105,7 +116,8 @@ module _ (p : Bytes × Bytes → Bool) where
     | inr e ↦ all_pairs_at ks n v (and_parts _ _ all).1 e
   ]
 
-  all_pairs_from : (ks : List (Bytes × Bytes)) → ((n v : Bytes) → list_any (eq_by_cmp pair_cmp (n, v)) ks ≡ true → p (n, v) ≡ true) → list_all p ks ≡ true
+  all_pairs_from : (ks : List (Bytes × Bytes)) → ((n v : Bytes) → list_any (eq_by_cmp pair_cmp (n, v)) ks ≡ true → p (n, v) ≡ true)
+      → list_all p ks ≡ true
   all_pairs_from [] each = refl
   all_pairs_from (k ∷ ks) each = and_from _ _
       (each k.0 k.1 (or_left _ _ (same_pair (k.0, k.1) k ∙ and_from _ _ (same-refl k.0) (same-refl k.1))))
@@ -120,7 +132,8 @@ each_owner T n u all v there =
 
 pub each_pair : (T : Tables) (n u : Bytes) → ((v : Bytes) → contains_key T.owners (n, v) ≡ true → same u v ≡ true)
     → list_all (λ pair. not (same n pair.0) || same u pair.1) (keys T.owners) ≡ true
-each_pair T n u each = all_pairs_from (λ pair. not (same n pair.0) || same u pair.1) (keys T.owners) (λ m v h. elim (cases_Bool (same n m)) [
-  | inl e ↦ or_right _ _ (each v (ap (λ x. contains_key T.owners (x, v)) (same-is n m e) ∙ contains_key-keys T.owners (m, v) ∙ h))
-  | inr e ↦ or_left _ _ (ap not e)
-])
+each_pair T n u each = all_pairs_from (λ pair. not (same n pair.0) || same u pair.1) (keys T.owners)
+    (λ m v h. elim (cases_Bool (same n m)) [
+      | inl e ↦ or_right _ _ (each v (ap (λ x. contains_key T.owners (x, v)) (same-is n m e) ∙ contains_key-keys T.owners (m, v) ∙ h))
+      | inr e ↦ or_left _ _ (ap not e)
+    ])

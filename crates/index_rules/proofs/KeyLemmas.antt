@@ -1,7 +1,9 @@
 -- Texts as keys: the test `same`, and what a map or a map from pairs has after a change.
-use Rattle.std.proofs.Common.{◌≡◌, Bool, true, false, cond, not, ◌&&◌, ◌⊎◌, inl, inr, refl, sym, ap, ◌∙◌, subst, List, [], ◌∷◌, Option, Some, None, is_some, map, option_map, T}
+use Rattle.std.proofs.Common.{◌≡◌, Bool, true, false, cond, not, ◌&&◌, ◌⊎◌, inl, inr, refl, sym, ap, ◌∙◌, subst, List, [], ◌∷◌, Option}
+use Rattle.std.proofs.Common.{Some, None, is_some, map, option_map, T}
 use Rattle.std.specs.Ordering.{eq_by_cmp, is_lt}
-use Rattle.std.specs.FinMap.{get, insert, remove, retain_keys, contains_key, entries, entries_sorted, is_sorted, get-insert, get-remove, get-retain_keys, get-entries, get-from_sorted, entries-from_sorted}
+use Rattle.std.specs.FinMap.{get, insert, remove, retain_keys, contains_key, entries, entries_sorted, is_sorted, get-insert, get-remove}
+use Rattle.std.specs.FinMap.{get-retain_keys, get-entries, get-from_sorted, entries-from_sorted}
 use Rattle.std.specs.FinMap as fin
 use Rattle.std.specs.FinMap.Entries.{below_all}
 use Rattle.std.proofs.lemmas.Cmp.{nat_list_cmp_total}
@@ -58,7 +60,8 @@ module _ {X : Type 0} (change : X → X) where
   find-changed : (q : Bytes) (es : List (Bytes × X)) → fin.find bytes_cmp q (changed es) ≡ option_map change (fin.find bytes_cmp q es)
   find-changed q [] = refl
   find-changed q (e ∷ es) =
-      elim (eq_by_cmp bytes_cmp q e.0) as (λ b. cond b (Some (change e.1)) (fin.find bytes_cmp q (changed es)) ≡ option_map change (cond b (Some e.1) (fin.find bytes_cmp q es))) [
+      elim (eq_by_cmp bytes_cmp q e.0) as (λ b. cond b (Some (change e.1)) (fin.find bytes_cmp q (changed es))
+      ≡ option_map change (cond b (Some e.1) (fin.find bytes_cmp q es))) [
         | true ↦ refl
         | false ↦ find-changed q es
       ]
@@ -79,7 +82,8 @@ module _ {X : Type 0} (change : X → X) where
 
 -- after an entry was put, after one was taken away, after those whose keys fail a test went
 module _ {X : Type 0} (m : PairMap X) where
-  pub get-put_pair : (k l : Bytes) (v : X) (n u : Bytes) → get (insert m (k, l) v) (n, u) ≡ cond (same n k && same u l) (Some v) (get m (n, u))
+  pub get-put_pair : (k l : Bytes) (v : X) (n u : Bytes)
+      → get (insert m (k, l) v) (n, u) ≡ cond (same n k && same u l) (Some v) (get m (n, u))
   get-put_pair k l v n u = get-insert pair_total m (k, l) v (n, u) ∙ ap (λ b. cond b (Some v) (get m (n, u))) (same_pair (n, u) (k, l))
 
   pub get-without_pair : (k l n u : Bytes) → get (remove m (k, l)) (n, u) ≡ cond (same n k && same u l) None (get m (n, u))
@@ -89,7 +93,8 @@ module _ {X : Type 0} (m : PairMap X) where
   get-kept_pair p n u = get-retain_keys m p (n, u) (λ x t. ap p (sym (exact_pair (n, u) x t)))
 
 -- what stands at a name goes, and the rest stays
-pub get-without_name : {X : Type 0} (k : Bytes) (m : PairMap X) (n u : Bytes) → get (without_name k m) (n, u) ≡ cond (not (same k n)) (get m (n, u)) None
+pub get-without_name : {X : Type 0} (k : Bytes) (m : PairMap X) (n u : Bytes)
+    → get (without_name k m) (n, u) ≡ cond (not (same k n)) (get m (n, u)) None
 get-without_name k m n u = get-kept_pair m (λ pair. not (same k pair.0)) n u
 
 pub get-without_name_other : {X : Type 0} (m : PairMap X) (k n u : Bytes) → same k n ≡ false → get (without_name k m) (n, u) ≡ get m (n, u)
@@ -110,10 +115,12 @@ is_some-cond_some true x = refl
 is_some-cond_some false x = refl
 
 -- after a pair was added, after one was taken away, after those with one first part went
-pub has-put : (m : Pairs) (k l n u : Bytes) → contains_key (insert m (k, l) tt) (n, u) ≡ cond (same n k && same u l) true (contains_key m (n, u))
+pub has-put : (m : Pairs) (k l n u : Bytes) → contains_key (insert m (k, l) tt) (n, u)
+    ≡ cond (same n k && same u l) true (contains_key m (n, u))
 has-put m k l n u = ap is_some (get-put_pair m k l tt n u) ∙ is_some-cond _ _
 
-pub has-without : (m : Pairs) (k l n u : Bytes) → contains_key (remove m (k, l)) (n, u) ≡ cond (same n k && same u l) false (contains_key m (n, u))
+pub has-without : (m : Pairs) (k l n u : Bytes)
+    → contains_key (remove m (k, l)) (n, u) ≡ cond (same n k && same u l) false (contains_key m (n, u))
 has-without m k l n u = ap is_some (get-without_pair m k l n u) ∙ is_some-cond_none _ _
 
 pub has-cleared : (m : Pairs) (k n u : Bytes) → contains_key (without_name k m) (n, u) ≡ cond (not (same k n)) (contains_key m (n, u)) false

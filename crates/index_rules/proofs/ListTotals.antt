@@ -1,5 +1,6 @@
 -- A sum and a test over the entries of a map, taken over a list that has each of its keys.
-use Rattle.std.proofs.Common.{◌≡◌, ℕ, ◌+◌, Bool, true, false, cond, ◌||◌, inl, inr, refl, sym, ap, ◌∙◌, List, [], ◌∷◌, Some, None, is_some, arith, sum_by, find}
+use Rattle.std.proofs.Common.{◌≡◌, ℕ, ◌+◌, Bool, true, false, cond, ◌||◌, inl, inr, refl, sym, ap, ◌∙◌, List, [], ◌∷◌, Some, None, is_some}
+use Rattle.std.proofs.Common.{arith, sum_by, find}
 use Rattle.std.specs.Option.{option_map_or}
 use Rattle.std.specs.List.{list_any}
 use Rattle.std.specs.FinMap.{get, insert, remove, entries, same_map}
@@ -67,16 +68,19 @@ module _ {X : Type 0} (m : Map X) (k : Bytes) where
 
 module _ {X : Type 0} (weight : X → ℕ) where
   -- an entry that is taken away takes its weight along
-  pub total-remove : (m : Map X) (k : Bytes) → total_of weight (entries (remove m k)) + option_map_or weight (get m k) 0 ≡ total_of weight (entries m)
-  total-remove m k = elim (get m k) as (λ o. get m k ≡ o → total_of weight (entries (remove m k)) + option_map_or weight o 0 ≡ total_of weight (entries m)) [
-    | None ↦ λ none. omega (arith, ap (λ n. total_of weight (entries n)) (remove_nothing m k none))
-    | Some v ↦ λ there.
-        let gone : option_map_or weight (get (remove m k) k) 0 ≡ 0 = ap (λ o. option_map_or weight o 0) (get-without_here m k) in
-        omega (arith, total-insert weight (remove m k) k v, gone, ap (λ n. total_of weight (entries n)) (put_back m k v there))
-  ] refl
+  pub total-remove : (m : Map X) (k : Bytes) → total_of weight (entries (remove m k)) + option_map_or weight (get m k) 0
+      ≡ total_of weight (entries m)
+  total-remove m k = elim (get m k) as (λ o. get m k ≡ o
+      → total_of weight (entries (remove m k)) + option_map_or weight o 0 ≡ total_of weight (entries m)) [
+        | None ↦ λ none. omega (arith, ap (λ n. total_of weight (entries n)) (remove_nothing m k none))
+        | Some v ↦ λ there.
+            let gone : option_map_or weight (get (remove m k) k) 0 ≡ 0 = ap (λ o. option_map_or weight o 0) (get-without_here m k) in
+            omega (arith, total-insert weight (remove m k) k v, gone, ap (λ n. total_of weight (entries n)) (put_back m k v there))
+      ] refl
 
   -- the entries weigh what is found at the keys of a list that has each key, and each of its own once
-  pub total-listed : (m : Map X) (fs : List Bytes) → Apart fs → HasKeys m fs → sum_by (λ f. option_map_or weight (get m f) 0) fs ≡ total_of weight (entries m)
+  pub total-listed : (m : Map X) (fs : List Bytes) → Apart fs → HasKeys m fs
+      → sum_by (λ f. option_map_or weight (get m f) 0) fs ≡ total_of weight (entries m)
   total-listed m [] apart keys = sym (total-zero weight m (λ k v there. absurd (false≢true (keys k (ap is_some there)))))
   total-listed m (f ∷ fs) apart keys =
       let rest = total-listed (remove m f) fs apart.1 others in
@@ -101,14 +105,17 @@ module _ {X : Type 0} (weight : X → ℕ) where
 
 module _ {X : Type 0} (test : X → Bool) where
   -- an entry passes exactly if what is found at a key of a list that has each key does
-  pub any-listed : (m : Map X) (fs : List Bytes) → HasKeys m fs → list_any (λ e. test e.1) (entries m) ≡ list_any (λ f. option_map_or test (get m f) false) fs
+  pub any-listed : (m : Map X) (fs : List Bytes) → HasKeys m fs
+      → list_any (λ e. test e.1) (entries m) ≡ list_any (λ f. option_map_or test (get m f) false) fs
   any-listed m fs keys =
       sym (is_some-find passes (entries m))
-      ∙ elim (find passes (entries m)) as (λ o. find passes (entries m) ≡ o → is_some o ≡ list_any (λ f. option_map_or test (get m f) false) fs) [
+      ∙ elim (find passes (entries m)) as (λ o. find passes (entries m) ≡ o
+      → is_some o ≡ list_any (λ f. option_map_or test (get m f) false) fs) [
         | None ↦ λ missed. sym (list_any-none _ fs (none_at missed))
         | Some e ↦ λ found.
             let there : get m e.0 ≡ Some e.1 = get-found m passes e found in
-            sym (list_any-at _ fs e.0 (keys e.0 (ap is_some there)) (ap (λ o. option_map_or test o false) there ∙ find-passes passes (entries m) e found))
+            sym (list_any-at _ fs e.0 (keys e.0 (ap is_some there))
+            (ap (λ o. option_map_or test o false) there ∙ find-passes passes (entries m) e found))
       ] refl
     where
       passes : Bytes × X → Bool

@@ -1,5 +1,6 @@
 -- In a legal history each entry moves the charges, the states and the owners as its request says.
-use Rattle.std.proofs.Common.{◌≡◌, ℕ, ◌+◌, Bool, true, false, cond, ◌&&◌, inl, inr, refl, sym, ap, ◌∙◌, subst, Option, Some, None, length, option_map, option_and_then, unwrap_or, arith}
+use Rattle.std.proofs.Common.{◌≡◌, ℕ, ◌+◌, Bool, true, false, cond, ◌&&◌, inl, inr, refl, sym, ap, ◌∙◌, subst, Option, Some, None, length}
+use Rattle.std.proofs.Common.{option_map, option_and_then, unwrap_or, arith}
 use Rattle.std.specs.Option.{option_map_or}
 use Rattle.std.specs.FinMap.{get, entries}
 use Rattle.std.proofs.Math.Bool.{and-false, and-true}
@@ -10,7 +11,8 @@ use Rattle.index_digest.specs.Digest.{read_digest}
 use Rattle.index_rules.specs.declared.answer.Refusal.TheVariants.{BadFileName, BadName, NoFile}
 use Rattle.index_rules.specs.declared.call.Call.{Call}
 use Rattle.index_rules.specs.declared.call.Request.{Request}
-use Rattle.index_rules.specs.declared.call.Request.TheVariants.{Claim, AddOwner, RemoveOwner, Upload, Delete, BanFile, Relinquish, Prohibit, Allow, Transfer}
+use Rattle.index_rules.specs.declared.call.Request.TheVariants.{Claim, AddOwner, RemoveOwner, Upload, Delete, BanFile, Relinquish, Prohibit}
+use Rattle.index_rules.specs.declared.call.Request.TheVariants.{Allow, Transfer}
 use Rattle.index_rules.specs.declared.records.FileRecord.{FileRecord}
 use Rattle.index_rules.specs.Maps.{Bytes, same, change_values}
 use Rattle.index_rules.specs.Users.{read_user}
@@ -43,17 +45,20 @@ use Rattle.index_rules.proofs.StandsOn.{tables_of, verdict_agrees, legal_made}
 
 -- if all files of a name are deleted, they weigh nothing for it
 none-charged : (T : Tables) (name : Bytes) → total_of (charged_size name) (entries (change_values (as_deleted_of name) T.files)) ≡ 0
-none-charged T name = total-zero (charged_size name) _ (each_changed (as_deleted_of name) T.files (λ _ known. charged_size name known ≡ 0) (λ _ known _.
+none-charged T name = total-zero (charged_size name) _
+    (each_changed (as_deleted_of name) T.files (λ _ known. charged_size name known ≡ 0) (λ _ known _.
     elim (same name known.project) as (λ b. same name known.project ≡ b → charged_size name (cond b (as_deleted known) known) ≡ 0) [
       | true ↦ λ _. refl
-      | false ↦ λ other. ap (λ b. cond (known.is_undeleted && b) known.size 0) other ∙ ap (λ b. cond b known.size 0) (and-false known.is_undeleted)
+      | false ↦ λ other. ap (λ b. cond (known.is_undeleted && b) known.size 0) other
+          ∙ ap (λ b. cond b known.size 0) (and-false known.is_undeleted)
     ] refl))
 
 -- the size in the record of a file is the one of the history
 size-file_at : (h : History) (f : Bytes) → (unwrap_or (file_after h f) no_file).size ≡ size_after h f
 size-file_at h f = by (first_upload_after h f)
   where
-    by : (k : Option (Bytes × ℕ)) → (unwrap_or (option_map (file_of_upload f (requires_after h f) (is_undeleted_after h f)) k) no_file).size ≡ option_map_or (λ first. first.1) k 0
+    by : (k : Option (Bytes × ℕ)) → (unwrap_or (option_map (file_of_upload f (requires_after h f) (is_undeleted_after h f)) k) no_file).size
+        ≡ option_map_or (λ first. first.1) k 0
     by None = refl
     by (Some first) = refl
 
@@ -62,16 +67,25 @@ module _ (T : Tables) (h : History) (sound : IsSound T) (stands : StandsFor T h)
   of request = record { at = at; token = token; request = request }
 
   charge-upload : (file digest body requires : Bytes) → verdict_now T (of (Upload file digest body requires)) ≡ Accept → (n : Bytes)
-      → MovesCharge (Upload file digest body requires) h n (charge_in T n) (charge_in (tables_with_call T (of (Upload file digest body requires))) n)
+      → MovesCharge (Upload file digest body requires) h n (charge_in T n)
+      (charge_in (tables_with_call T (of (Upload file digest body requires))) n)
   charge-upload file digest body requires accepts n =
       let all = accepted (of (Upload file digest body requires)) (facts_in T (of (Upload file digest body requires))) accepts in
       let reads : read_file file ≡ Some file = read_itself file (all.not_refused BadFileName refl) in
       total-upload (λ known. known.size) T file
-      (record { project = project_of file; release = release_of file; digest = or_empty (read_digest digest); size = length body; requires_python = requires; is_undeleted = true })
+      (record {
+        project = project_of file;
+        release = release_of file;
+        digest = or_empty (read_digest digest);
+        size = length body;
+        requires_python = requires;
+        is_undeleted = true;
+      })
       refl (sym (ap (λ read. is_undeleted (option_and_then (get T.files) read)) reads) ∙ all.not_already) n
       ∙ ap (λ read. charge_in T n + cond (is_read_as (option_map project_of read) n) (length body) 0) (sym reads)
 
-  charge-delete : (file : Bytes) → verdict_now T (of (Delete file)) ≡ Accept → (n : Bytes) → MovesCharge (Delete file) h n (charge_in T n) (charge_in (tables_with_call T (of (Delete file))) n)
+  charge-delete : (file : Bytes) → verdict_now T (of (Delete file)) ≡ Accept → (n : Bytes)
+      → MovesCharge (Delete file) h n (charge_in T n) (charge_in (tables_with_call T (of (Delete file))) n)
   charge-delete file accepts n =
       let all = accepted (of (Delete file)) (facts_in T (of (Delete file))) accepts in
       let reads : read_file file ≡ Some file = read_itself file (all.not_refused BadFileName refl) in
@@ -86,36 +100,46 @@ module _ (T : Tables) (h : History) (sound : IsSound T) (stands : StandsFor T h)
       ∙ (λ i. left + cond (same n (sym project i)) (sym size i) 0)
       ∙ total-delete (λ known. known.size) T file known undeleted.1 there n
 
-  charge-ban : (file : Bytes) → verdict_now T (of (BanFile file)) ≡ Accept → (n : Bytes) → MovesCharge (BanFile file) h n (charge_in T n) (charge_in (tables_with_call T (of (BanFile file))) n)
+  charge-ban : (file : Bytes) → verdict_now T (of (BanFile file)) ≡ Accept → (n : Bytes)
+      → MovesCharge (BanFile file) h n (charge_in T n) (charge_in (tables_with_call T (of (BanFile file))) n)
   charge-ban file accepts n =
       let all = accepted (of (BanFile file)) (facts_in T (of (BanFile file))) accepts in
       let reads : read_file file ≡ Some file = read_itself file (all.not_refused BadFileName refl) in
       let found : option_and_then (get T.files) (read_file file) ≡ get T.files file = ap (option_and_then (get T.files)) reads in
       let known : FileRecord = unwrap_or (option_and_then (get T.files) (read_file file)) no_file in
-      let there : get T.files file ≡ Some known = sym found ∙ file_there (option_and_then (get T.files) (read_file file)) (all.not_refused NoFile refl) in
+      let there : get T.files file ≡ Some known =
+      sym found ∙ file_there (option_and_then (get T.files) (read_file file)) (all.not_refused NoFile refl) in
       let project : known.project ≡ project_of file = (sound.spelled file known there).project in
       let size : known.size ≡ size_after h file = ap (λ o. (unwrap_or o no_file).size) (found ∙ stands.files file) ∙ size-file_at h file in
-      let is : known.is_undeleted ≡ is_undeleted_after h file = sym (ap is_undeleted there) ∙ ap is_undeleted (stands.files file) ∙ is_undeleted-file_at h file in
+      let is : known.is_undeleted ≡ is_undeleted_after h file =
+      sym (ap is_undeleted there) ∙ ap is_undeleted (stands.files file) ∙ is_undeleted-file_at h file in
       let left : ℕ = charge_in (tables_with_call T (of (BanFile file))) n in
-      (λ i. left + cond (is_read_as (option_map project_of (reads i)) n && is_undeleted_after h (or_empty (reads i))) (size_after h (or_empty (reads i))) 0)
+      (λ i. left + cond (is_read_as (option_map project_of (reads i)) n && is_undeleted_after h (or_empty (reads i)))
+      (size_after h (or_empty (reads i))) 0)
       ∙ (λ i. left + cond (same n (sym project i) && sym is i) (sym size i) 0)
       ∙ elim known.is_undeleted as (λ b. known.is_undeleted ≡ b → left + cond (same n known.project && b) known.size 0 ≡ charge_in T n) [
-        | true ↦ λ there_now. ap (λ b. left + cond b known.size 0) (and-true (same n known.project)) ∙ total-delete (λ known. known.size) T file known there_now there n
-        | false ↦ λ gone. ap (λ b. left + cond b known.size 0) (and-false (same n known.project)) ∙ ap (λ files. total_of (charged_size n) (entries files) + 0) (file_stays T file known there gone) ∙ omega arith
+        | true ↦ λ there_now. ap (λ b. left + cond b known.size 0) (and-true (same n known.project))
+            ∙ total-delete (λ known. known.size) T file known there_now there n
+        | false ↦ λ gone. ap (λ b. left + cond b known.size 0) (and-false (same n known.project))
+            ∙ ap (λ files. total_of (charged_size n) (entries files) + 0) (file_stays T file known there gone) ∙ omega arith
       ] refl
 
-  charge-prohibit : (name : Bytes) → verdict_now T (of (Prohibit name)) ≡ Accept → (n : Bytes) → MovesCharge (Prohibit name) h n (charge_in T n) (charge_in (tables_with_call T (of (Prohibit name))) n)
+  charge-prohibit : (name : Bytes) → verdict_now T (of (Prohibit name)) ≡ Accept → (n : Bytes)
+      → MovesCharge (Prohibit name) h n (charge_in T n) (charge_in (tables_with_call T (of (Prohibit name))) n)
   charge-prohibit name accepts n =
       let read : Option Bytes = read_name name in
-      let reads : read ≡ Some (or_empty read) = read_key read ((accepted (of (Prohibit name)) (facts_in T (of (Prohibit name))) accepts).not_refused BadName refl) in
+      let reads : read ≡ Some (or_empty read) =
+      read_key read ((accepted (of (Prohibit name)) (facts_in T (of (Prohibit name))) accepts).not_refused BadName refl) in
       elim (cases_same n (or_empty read)) [
         | inl is ↦
             ap (charge_in (tables_with_call T (of (Prohibit name)))) is ∙ none-charged T (or_empty read)
             ∙ sym (ap (λ q. cond (is_read_as read q) 0 (charge_in T n)) is ∙ at_key read (or_empty read) reads 0 (charge_in T n))
-        | inr other ↦ total-delete_all (λ known. known.size) T (or_empty read) n other ∙ sym (at_other read (or_empty read) reads 0 (charge_in T n) n other)
+        | inr other ↦ total-delete_all (λ known. known.size) T (or_empty read) n other
+            ∙ sym (at_other read (or_empty read) reads 0 (charge_in T n) n other)
       ]
 
-  charge-moves : (r : Request) → verdict_now T (of r) ≡ Accept → (n : Bytes) → MovesCharge r h n (charge_in T n) (charge_in (tables_with_call T (of r)) n)
+  charge-moves : (r : Request) → verdict_now T (of r) ≡ Accept → (n : Bytes)
+      → MovesCharge r h n (charge_in T n) (charge_in (tables_with_call T (of r)) n)
   charge-moves (Upload file digest body requires) accepts n = charge-upload file digest body requires accepts n
   charge-moves (Delete file) accepts n = charge-delete file accepts n
   charge-moves (BanFile file) accepts n = charge-ban file accepts n
@@ -126,7 +150,8 @@ module _ (T : Tables) (h : History) (sound : IsSound T) (stands : StandsFor T h)
   uploads_anew (Upload file digest body requires) accepts =
       let all = accepted (of (Upload file digest body requires)) (facts_in T (of (Upload file digest body requires))) accepts in
       let reads : read_file file ≡ Some file = read_itself file (all.not_refused BadFileName refl) in
-      ap (λ read. is_undeleted_after h (or_empty read)) reads ∙ sym (is_undeleted-file_at h file) ∙ sym (ap is_undeleted (ap (option_and_then (get T.files)) reads ∙ stands.files file)) ∙ all.not_already
+      ap (λ read. is_undeleted_after h (or_empty read)) reads ∙ sym (is_undeleted-file_at h file)
+      ∙ sym (ap is_undeleted (ap (option_and_then (get T.files)) reads ∙ stands.files file)) ∙ all.not_already
   uploads_anew r accepts = tt
 
 -- ---- the state and the owners
@@ -138,7 +163,8 @@ state_kept (Prohibit name) n before other = ap (λ b. cond b Prohibited before) 
 state_kept (Allow name) n before other = ap (λ b. cond b Free before) other
 state_kept r n before other = refl
 
-given_kept : (r : Request) (actor : Bytes) (candidate : Option Bytes) (n u : Bytes) (before : Bool) → may_move_owners r n ≡ false → is_given_by r actor candidate n u before ≡ before
+given_kept : (r : Request) (actor : Bytes) (candidate : Option Bytes) (n u : Bytes) (before : Bool) → may_move_owners r n ≡ false
+    → is_given_by r actor candidate n u before ≡ before
 given_kept (Claim name) actor candidate n u before other = ap (λ b. cond b (same u actor) before) other
 given_kept (AddOwner name user) actor candidate n u before other = ap (λ b. cond (b && is_read_as (read_user user) u) true before) other
 given_kept (RemoveOwner name user) actor candidate n u before other = ap (λ b. cond (b && is_read_as (read_user user) u) false before) other
@@ -152,9 +178,11 @@ state_with_owners (RemoveOwner name user) n other = refl
 state_with_owners (Transfer name quiet) n other = refl
 state_with_owners r n other = other
 
-pub owners_kept : (r : Request) (actor : Bytes) (candidate : Option Bytes) (n u : Bytes) (state : State) (given : Bool) → may_move_owners r n ≡ false
+pub owners_kept : (r : Request) (actor : Bytes) (candidate : Option Bytes) (n u : Bytes) (state : State) (given : Bool)
+    → may_move_owners r n ≡ false
     → (is_held_now (state_by r n state) && is_given_by r actor candidate n u given) ≡ (is_held_now state && given)
-owners_kept r actor candidate n u state given other = λ i. is_held_now (state_kept r n state (state_with_owners r n other) i) && given_kept r actor candidate n u given other i
+owners_kept r actor candidate n u state given other =
+    λ i. is_held_now (state_kept r n state (state_with_owners r n other) i) && given_kept r actor candidate n u given other i
 
 -- ---- each entry
 

@@ -26,21 +26,26 @@ module _ (T : Tables) (one : HasOneBearer T) (at : ℕ) (token : Bytes) where
   each_request (AddUser user office digest) accepts =
       let all = accepted (of (AddUser user office digest)) (facts_in T (of (AddUser user office digest))) accepts in
       HasOneBearer-put T one (or_empty (read_user user)) (record { office = office; token = or_empty (read_token digest) })
-      (not_taken T one (read_token digest) (read_user user) (all.not_refused BadDigest refl) (all.not_refused BadUser refl) (all.not_refused TokenTaken refl))
+      (not_taken T one (read_token digest) (read_user user) (all.not_refused BadDigest refl) (all.not_refused BadUser refl)
+      (all.not_refused TokenTaken refl))
   each_request (SetToken user digest) accepts =
       let all = accepted (of (SetToken user digest)) (facts_in T (of (SetToken user digest))) accepts in
-      HasOneBearer-put T one (or_empty (read_user user)) (record { office = (the_user (facts_in T (of (SetToken user digest)))).office; token = or_empty (read_token digest) })
-      (not_taken T one (read_token digest) (read_user user) (all.not_refused BadDigest refl) (all.not_refused BadUser refl) (all.not_refused TokenTaken refl))
+      HasOneBearer-put T one (or_empty (read_user user))
+      (record { office = (the_user (facts_in T (of (SetToken user digest)))).office; token = or_empty (read_token digest) })
+      (not_taken T one (read_token digest) (read_user user) (all.not_refused BadDigest refl) (all.not_refused BadUser refl)
+      (all.not_refused TokenTaken refl))
   each_request request accepts = one
 
-pub HasOneBearer-tables_after : (T : Tables) → HasOneBearer T → (c : Call) (answer : Answer) → Answers (verdict_now T c) answer → HasOneBearer (tables_after T c answer)
+pub HasOneBearer-tables_after : (T : Tables) → HasOneBearer T → (c : Call) (answer : Answer) → Answers (verdict_now T c) answer
+    → HasOneBearer (tables_after T c answer)
 HasOneBearer-tables_after T one c Accepted answers = each_request T one c.at c.token c.request answers
 HasOneBearer-tables_after T one c Already answers = one
 HasOneBearer-tables_after T one c (Refused refusal) answers = one
 HasOneBearer-tables_after T one c (Fault fault) answers = one
 
 -- and so do calls in a row
-pub HasOneBearer-Runs : (T : Tables) → HasOneBearer T → (calls : List Call) (answers : List Answer) (T' : Tables) → Runs T calls answers T' → HasOneBearer T'
+pub HasOneBearer-Runs : (T : Tables) → HasOneBearer T → (calls : List Call) (answers : List Answer) (T' : Tables) → Runs T calls answers T'
+    → HasOneBearer T'
 HasOneBearer-Runs T one [] [] T' run = subst HasOneBearer (sym run) one
 HasOneBearer-Runs T one [] (answer ∷ answers) T' run = absurd run
 HasOneBearer-Runs T one (call ∷ calls) [] T' run = absurd run

@@ -42,12 +42,16 @@ seconds name pairs = map (λ p. p.1) (filter (λ p. same name p.0) pairs)
 
 -- two pairs with one first part are in the order of their second parts
 with_one_first : (p q : Bytes × Bytes) → p.0 ≡ q.0 → pair_cmp p q ≡ Less → bytes_cmp p.1 q.1 ≡ Less
-with_one_first p q e h = sym (ap (λ o. ordering_then o (bytes_cmp p.1 q.1)) (ap (bytes_cmp p.0) (sym e) ∙ tied_itself nat_list_cmp_total p.0)) ∙ h
+with_one_first p q e h = sym (ap (λ o. ordering_then o (bytes_cmp p.1 q.1))
+    (ap (bytes_cmp p.0) (sym e) ∙ tied_itself nat_list_cmp_total p.0)) ∙ h
 
-above : (name : Bytes) (p : Bytes × Bytes) (ps : List (Bytes × Bytes)) → same name p.0 ≡ true → AllByRecursion (λ q. pair_cmp p q ≡ Less) ps → AllByRecursion (λ u. bytes_cmp p.1 u ≡ Less) (seconds name ps)
+above : (name : Bytes) (p : Bytes × Bytes) (ps : List (Bytes × Bytes)) → same name p.0 ≡ true → AllByRecursion (λ q. pair_cmp p q ≡ Less) ps
+    → AllByRecursion (λ u. bytes_cmp p.1 u ≡ Less) (seconds name ps)
 above name p [] one h = tt
 above name p (q ∷ ps) one h =
-    elim (same name q.0) as (λ b. same name q.0 ≡ b → AllByRecursion (λ u. bytes_cmp p.1 u ≡ Less) (map (λ x. x.1) (cond b (q ∷ filter (λ x. same name x.0) ps) (filter (λ x. same name x.0) ps)))) [
+    elim (same name q.0) as (λ b. same name q.0 ≡ b
+    → AllByRecursion (λ u. bytes_cmp p.1 u ≡ Less)
+    (map (λ x. x.1) (cond b (q ∷ filter (λ x. same name x.0) ps) (filter (λ x. same name x.0) ps)))) [
       | true ↦ λ t. (with_one_first p q (sym (same-is name p.0 one) ∙ same-is name q.0 t) h.0, above name p ps one h.1)
       | false ↦ λ _. above name p ps one h.1
     ] refl
@@ -56,15 +60,19 @@ rises : (name : Bytes) (ps : List (Bytes × Bytes)) → IsStrictlySortedBy pair_
 unfolding IsStrictlySortedBy
 rises name [] h = tt
 rises name (p ∷ ps) h =
-    elim (same name p.0) as (λ b. same name p.0 ≡ b → IsStrictlySortedBy bytes_cmp (map (λ x. x.1) (cond b (p ∷ filter (λ x. same name x.0) ps) (filter (λ x. same name x.0) ps)))) [
+    elim (same name p.0) as (λ b. same name p.0 ≡ b
+    → IsStrictlySortedBy bytes_cmp (map (λ x. x.1) (cond b (p ∷ filter (λ x. same name x.0) ps) (filter (λ x. same name x.0) ps)))) [
       | true ↦ λ t. (above name p ps t h.0, rises name ps h.1)
       | false ↦ λ _. rises name ps h.1
     ] refl
 
-pub list_any-seconds : (name user : Bytes) (ps : List (Bytes × Bytes)) → list_any (same user) (seconds name ps) ≡ list_any (eq_by_cmp pair_cmp (name, user)) ps
+pub list_any-seconds : (name user : Bytes) (ps : List (Bytes × Bytes))
+    → list_any (same user) (seconds name ps) ≡ list_any (eq_by_cmp pair_cmp (name, user)) ps
 list_any-seconds name user [] = refl
 list_any-seconds name user (p ∷ ps) =
-    elim (same name p.0) as (λ b. list_any (same user) (map (λ x. x.1) (cond b (p ∷ filter (λ x. same name x.0) ps) (filter (λ x. same name x.0) ps))) ≡ ((b && same user p.1) || list_any (same user) (seconds name ps))) [ true ↦ refl | false ↦ refl ]
+    elim (same name p.0) as (λ b. list_any (same user)
+    (map (λ x. x.1) (cond b (p ∷ filter (λ x. same name x.0) ps) (filter (λ x. same name x.0) ps)))
+    ≡ ((b && same user p.1) || list_any (same user) (seconds name ps))) [ true ↦ refl | false ↦ refl ]
     ∙ (λ i. sym (same_pair (name, user) p) i || list_any-seconds name user ps i)
 
 -- ---- the owners of a name

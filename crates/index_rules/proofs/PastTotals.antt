@@ -11,7 +11,8 @@ use Rattle.index_rules.specs.Tables.{Tables}
 use Rattle.index_rules.specs.Facts.{is_undeleted_of_release, has_release_in}
 use Rattle.index_rules.specs.Sound.{is_undeleted_of, charged_size, charge_in, undeleted_count_in}
 use Rattle.index_rules.specs.History.{History}
-use Rattle.index_rules.specs.PastFiles.{first_upload_after, is_undeleted_after, requires_after, uploaded_files_after, charge_after, undeleted_count_after, is_charged_after, size_after, has_release_after}
+use Rattle.index_rules.specs.PastFiles.{first_upload_after, is_undeleted_after, requires_after, uploaded_files_after, charge_after}
+use Rattle.index_rules.specs.PastFiles.{undeleted_count_after, is_charged_after, size_after, has_release_after}
 use Rattle.index_rules.specs.StandsFor.{file_of_upload, file_after}
 use Rattle.index_rules.proofs.PastWords.{Apart-uploaded, known_is_uploaded, undeleted_known}
 use Rattle.index_rules.proofs.ListTotals.{HasKeys, total-listed, any-listed}
@@ -31,7 +32,8 @@ module _ (h : History) (n f : Bytes) where
   charged_at = by (first_upload_after h f) (is_undeleted_after h f) (undeleted_known h f)
     where
       by : (o : Option (Bytes × ℕ)) (b : Bool) → (b ≡ true → is_some o ≡ true)
-          → option_map_or (charged_size n) (option_map (file_of_upload f (requires_after h f) b) o) 0 ≡ cond (b && same n (project_of f)) (option_map_or (λ first. first.1) o 0) 0
+          → option_map_or (charged_size n) (option_map (file_of_upload f (requires_after h f) b) o) 0
+          ≡ cond (b && same n (project_of f)) (option_map_or (λ first. first.1) o 0) 0
       by None true there = absurd (false≢true (there refl))
       by None false there = refl
       by (Some first) b there = refl
@@ -40,16 +42,19 @@ module _ (h : History) (n f : Bytes) where
   one_if_undeleted_at = by (first_upload_after h f) (is_undeleted_after h f) (undeleted_known h f)
     where
       by : (o : Option (Bytes × ℕ)) (b : Bool) → (b ≡ true → is_some o ≡ true)
-          → option_map_or (one_if_undeleted n) (option_map (file_of_upload f (requires_after h f) b) o) 0 ≡ cond (b && same n (project_of f)) 1 0
+          → option_map_or (one_if_undeleted n) (option_map (file_of_upload f (requires_after h f) b) o) 0
+          ≡ cond (b && same n (project_of f)) 1 0
       by None true there = absurd (false≢true (there refl))
       by None false there = refl
       by (Some first) b there = refl
 
-  pub released_at : (r : Bytes) → option_map_or (is_undeleted_of_release n r) (file_after h f) false ≡ (is_charged_after h n f && same r (release_of f))
+  pub released_at : (r : Bytes) → option_map_or (is_undeleted_of_release n r) (file_after h f) false
+      ≡ (is_charged_after h n f && same r (release_of f))
   released_at r = by (first_upload_after h f) (is_undeleted_after h f) (undeleted_known h f)
     where
       by : (o : Option (Bytes × ℕ)) (b : Bool) → (b ≡ true → is_some o ≡ true)
-          → option_map_or (is_undeleted_of_release n r) (option_map (file_of_upload f (requires_after h f) b) o) false ≡ ((b && same n (project_of f)) && same r (release_of f))
+          → option_map_or (is_undeleted_of_release n r) (option_map (file_of_upload f (requires_after h f) b) o) false
+          ≡ ((b && same n (project_of f)) && same r (release_of f))
       by None true there = absurd (false≢true (there refl))
       by None false there = refl
       by (Some first) true there = refl
@@ -71,10 +76,12 @@ module _ (T : Tables) (h : History) (files : (f : Bytes) → get T.files f ≡ f
   pub count_agrees : (n : Bytes) → undeleted_count_in T n ≡ undeleted_count_after h n
   count_agrees n =
       sym (total-listed (one_if_undeleted n) T.files (uploaded_files_after h) (Apart-uploaded h) has_keys)
-      ∙ (λ i. sum_by (λ f. (ap (λ o. option_map_or (one_if_undeleted n) o 0) (files f) ∙ one_if_undeleted_at h n f) i) (uploaded_files_after h))
+      ∙ (λ i. sum_by (λ f. (ap (λ o. option_map_or (one_if_undeleted n) o 0) (files f) ∙ one_if_undeleted_at h n f) i)
+      (uploaded_files_after h))
 
   -- whether a release of it has one
   pub has_release_agrees : (n r : Bytes) → has_release_in T n r ≡ has_release_after h n r
   has_release_agrees n r =
       any-listed (is_undeleted_of_release n r) T.files (uploaded_files_after h) has_keys
-      ∙ (λ i. list_any (λ f. (ap (λ o. option_map_or (is_undeleted_of_release n r) o false) (files f) ∙ released_at h n f r) i) (uploaded_files_after h))
+      ∙ (λ i. list_any (λ f. (ap (λ o. option_map_or (is_undeleted_of_release n r) o false) (files f) ∙ released_at h n f r) i)
+      (uploaded_files_after h))

@@ -1,5 +1,6 @@
 -- What holds of every history: its uploaded files stand once each and are the known ones, and an undeleted file is known.
-use Rattle.std.proofs.Common.{◌≡◌, ℕ, Bool, true, false, cond, ◌&&◌, ◌||◌, inl, inr, refl, sym, ap, ◌∙◌, List, [], ◌∷◌, Option, Some, None, is_some, option_map, option_and_then, length}
+use Rattle.std.proofs.Common.{◌≡◌, ℕ, Bool, true, false, cond, ◌&&◌, ◌||◌, inl, inr, refl, sym, ap, ◌∙◌, List, [], ◌∷◌, Option, Some, None}
+use Rattle.std.proofs.Common.{is_some, option_map, option_and_then, length}
 use Rattle.std.specs.List.{list_any}
 use Rattle.std.specs.Option.{option_or}
 use Rattle.std.proofs.lemmas.Bool.{false≢true, or_left, or_right, cases_Bool}
@@ -17,7 +18,8 @@ use Rattle.index_rules.specs.History.{History, begins, more, is_read_as}
 use Rattle.index_rules.specs.PastUsers.{with_read}
 use Rattle.index_rules.specs.PastNames.{is_given_by, receivers_by, is_given_after, receivers_after}
 use Rattle.index_rules.specs.PastCases.{candidate_after}
-use Rattle.index_rules.specs.PastFiles.{first_upload_after, first_upload_by, is_undeleted_after, is_undeleted_by, requires_after, uploaded_files_after, uploaded_files_by, once_more}
+use Rattle.index_rules.specs.PastFiles.{first_upload_after, first_upload_by, is_undeleted_after, is_undeleted_by, requires_after}
+use Rattle.index_rules.specs.PastFiles.{uploaded_files_after, uploaded_files_by, once_more}
 use Rattle.index_rules.specs.StandsFor.{file_of_upload, file_after}
 use Rattle.index_rules.proofs.KeyLemmas.{same-refl, cases_same}
 
@@ -49,20 +51,22 @@ Apart-uploaded (more h e) = Apart_by e.call.request (uploaded_files_after h) (Ap
 
 has-once_more : (read : Option Bytes) (files : List Bytes) (f : Bytes) → has (once_more read files) f ≡ (is_read_as read f || has files f)
 has-once_more None files f = refl
-has-once_more (Some g) files f = elim (has files g) as (λ b. has files g ≡ b → has (cond b files (g ∷ files)) f ≡ (same f g || has files f)) [
-  | true ↦ λ there. elim (cases_same f g) [
-    | inl is ↦ ap (has files) is ∙ there ∙ sym (or_left _ _ (ap (λ x. same x g) is ∙ same-refl g))
-    | inr other ↦ ap (λ b. b || has files f) (sym other)
-  ]
-  | false ↦ λ _. refl
-] refl
+has-once_more (Some g) files f = elim (has files g) as (λ b. has files g ≡ b
+    → has (cond b files (g ∷ files)) f ≡ (same f g || has files f)) [
+      | true ↦ λ there. elim (cases_same f g) [
+        | inl is ↦ ap (has files) is ∙ there ∙ sym (or_left _ _ (ap (λ x. same x g) is ∙ same-refl g))
+        | inr other ↦ ap (λ b. b || has files f) (sym other)
+      ]
+      | false ↦ λ _. refl
+    ] refl
 
 is_some-or : (b c : Bool) (o : Option (Bytes × ℕ)) (x : Bytes × ℕ) → is_some o ≡ b → is_some (option_or o (cond c (Some x) None)) ≡ (c || b)
 is_some-or b c (Some y) x is = elim c as (λ c. true ≡ (c || b)) [ true ↦ refl | false ↦ is ]
 is_some-or b true None x is = refl
 is_some-or b false None x is = is
 
-known_is_uploaded_by : (r : Request) (f : Bytes) (before : Option (Bytes × ℕ)) (files : List Bytes) → is_some before ≡ has files f → is_some (first_upload_by r f before) ≡ has (uploaded_files_by r files) f
+known_is_uploaded_by : (r : Request) (f : Bytes) (before : Option (Bytes × ℕ)) (files : List Bytes) → is_some before ≡ has files f
+    → is_some (first_upload_by r f before) ≡ has (uploaded_files_by r files) f
 known_is_uploaded_by (Upload file sha256 body requires) f before files is =
     is_some-or (has files f) (is_read_as (read_file file) f) before (or_empty (read_digest sha256), length body) is
     ∙ sym (has-once_more (read_file file) files f)
@@ -71,7 +75,8 @@ known_is_uploaded_by r f before files is = is
 -- a file is known exactly if it was uploaded
 pub known_is_uploaded : (h : History) (f : Bytes) → is_some (first_upload_after h f) ≡ has (uploaded_files_after h) f
 known_is_uploaded (begins user token) f = refl
-known_is_uploaded (more h e) f = known_is_uploaded_by e.call.request f (first_upload_after h f) (uploaded_files_after h) (known_is_uploaded h f)
+known_is_uploaded (more h e) f = known_is_uploaded_by e.call.request f (first_upload_after h f) (uploaded_files_after h)
+    (known_is_uploaded h f)
 
 -- ---- the undeleted files
 
@@ -80,10 +85,12 @@ still : (gone before : Bool) → cond gone false before ≡ true → before ≡ 
 still true before is = absurd (false≢true is)
 still false before is = is
 
-known_after : (r : Request) (f : Bytes) (b : Bool) (before : Option (Bytes × ℕ)) → (b ≡ true → is_some before ≡ true) → is_undeleted_by r f b ≡ true → is_some (first_upload_by r f before) ≡ true
+known_after : (r : Request) (f : Bytes) (b : Bool) (before : Option (Bytes × ℕ)) → (b ≡ true → is_some before ≡ true)
+    → is_undeleted_by r f b ≡ true → is_some (first_upload_by r f before) ≡ true
 known_after (Upload file sha256 body requires) f b before there is = by (is_read_as (read_file file) f) before there is
   where
-    by : (t : Bool) (o : Option (Bytes × ℕ)) → (b ≡ true → is_some o ≡ true) → cond t true b ≡ true → is_some (option_or o (cond t (Some (or_empty (read_digest sha256), length body)) None)) ≡ true
+    by : (t : Bool) (o : Option (Bytes × ℕ)) → (b ≡ true → is_some o ≡ true) → cond t true b ≡ true
+        → is_some (option_or o (cond t (Some (or_empty (read_digest sha256), length body)) None)) ≡ true
     by t (Some first) there is = refl
     by true None there is = refl
     by false None there is = there is
@@ -101,7 +108,8 @@ undeleted_known (more h e) f is = known_after e.call.request f (is_undeleted_aft
 pub is_undeleted-file_at : (h : History) (f : Bytes) → is_undeleted (file_after h f) ≡ is_undeleted_after h f
 is_undeleted-file_at h f = by (first_upload_after h f) (is_undeleted_after h f) (undeleted_known h f)
   where
-    by : (o : Option (Bytes × ℕ)) (b : Bool) → (b ≡ true → is_some o ≡ true) → is_undeleted (option_map (file_of_upload f (requires_after h f) b) o) ≡ b
+    by : (o : Option (Bytes × ℕ)) (b : Bool) → (b ≡ true → is_some o ≡ true)
+        → is_undeleted (option_map (file_of_upload f (requires_after h f) b) o) ≡ b
     by None true there = there refl
     by None false there = refl
     by (Some first) b there = refl
@@ -116,7 +124,8 @@ still_has : (read : Option Bytes) (users : List Bytes) (v : Bytes) → has users
 still_has None users v there = there
 still_has (Some user) users v there = or_right _ _ there
 
-received_by : (r : Request) (actor : Bytes) (candidate : Bytes → Option Bytes) (n v : Bytes) (b : Bool) (users : List Bytes) → (b ≡ true → has users v ≡ true)
+received_by : (r : Request) (actor : Bytes) (candidate : Bytes → Option Bytes) (n v : Bytes) (b : Bool) (users : List Bytes)
+    → (b ≡ true → has users v ≡ true)
     → is_given_by r actor (candidate n) n v b ≡ true → has (receivers_by r actor candidate users) v ≡ true
 received_by (Claim name) actor candidate n v b users there is = by (is_read_as (read_name name) n) is
   where
@@ -132,13 +141,17 @@ received_by (AddOwner name user) actor candidate n v b users there is = elim (ca
     by true true other is = absurd (false≢true (sym other))
     by true false other is = is
     by false s other is = is
-received_by (RemoveOwner name user) actor candidate n v b users there is = there (still (is_read_as (read_name name) n && is_read_as (read_user user) v) b is)
+received_by (RemoveOwner name user) actor candidate n v b users there is =
+    there (still (is_read_as (read_name name) n && is_read_as (read_user user) v) b is)
 received_by (Transfer name quiet) actor candidate n v b users there is = by (read_name name) is
   where
-    by : (read : Option Bytes) → cond (is_read_as read n) (is_read_as (candidate n) v) b ≡ true → has (with_read (option_and_then candidate read) users) v ≡ true
+    by : (read : Option Bytes) → cond (is_read_as read n) (is_read_as (candidate n) v) b ≡ true
+        → has (with_read (option_and_then candidate read) users) v ≡ true
     by None is = there is
     by (Some m) is = elim (cases_same n m) [
-      | inl e ↦ has-with_read (candidate m) users v (ap (λ x. is_read_as (candidate x) v) (sym e) ∙ sym (ap (λ t. cond t (is_read_as (candidate n) v) b) (ap (same n) (sym e) ∙ same-refl n)) ∙ is)
+      | inl e ↦ has-with_read (candidate m) users v
+          (ap (λ x. is_read_as (candidate x) v) (sym e)
+          ∙ sym (ap (λ t. cond t (is_read_as (candidate n) v) b) (ap (same n) (sym e) ∙ same-refl n)) ∙ is)
       | inr other ↦ still_has (candidate m) users v (there (sym (ap (λ t. cond t (is_read_as (candidate n) v) b) other) ∙ is))
     ]
 received_by r actor candidate n v b users there is = there is
@@ -146,4 +159,5 @@ received_by r actor candidate n v b users there is = there is
 -- a user to whom a name is given is one of those to whom any was
 pub received : (h : History) (n v : Bytes) → is_given_after h n v ≡ true → has (receivers_after h) v ≡ true
 received (begins user token) n v is = is
-received (more h e) n v is = received_by e.call.request e.actor (candidate_after h) n v (is_given_after h n v) (receivers_after h) (received h n v) is
+received (more h e) n v is = received_by e.call.request e.actor (candidate_after h) n v (is_given_after h n v) (receivers_after h)
+    (received h n v) is

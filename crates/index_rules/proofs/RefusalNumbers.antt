@@ -2,7 +2,12 @@
 use Rattle.std.proofs.Common.{◌≡◌, ℕ, ◌==◌, true, cond, refl, sym, ap, ◌∙◌, arith}
 use Rattle.std.proofs.lemmas.Bool.Decides.{nat_tests}
 use Rattle.index_rules.specs.declared.answer.Refusal.{Refusal}
-use Rattle.index_rules.specs.declared.answer.Refusal.TheVariants.{BadMoment, BadToken, NotOffice, BadUser, BadName, BadFileName, BadRelease, BadText, BadDigest, TooLarge, DigestMismatch, QuotaTooLarge, NoUser, UserExists, TokenTaken, NameProhibited, NoProject, NotOwner, NameHeld, LastOwner, FilesRemain, NoFile, NoRelease, FileNameTaken, FileBanned, OverQuota, QuotaBelowCharge, CaseOpen, OwnerCandidate, NoCase, AttemptsFull, TooFewAttempts, TooEarly, RecentRelease, HomePageActive}
+use Rattle.index_rules.specs.declared.answer.Refusal.TheVariants.{BadMoment, BadToken, NotOffice, BadUser, BadName, BadFileName, BadRelease}
+use Rattle.index_rules.specs.declared.answer.Refusal.TheVariants.{BadText, BadDigest, TooLarge, DigestMismatch, QuotaTooLarge, NoUser}
+use Rattle.index_rules.specs.declared.answer.Refusal.TheVariants.{UserExists, TokenTaken, NameProhibited, NoProject, NotOwner, NameHeld}
+use Rattle.index_rules.specs.declared.answer.Refusal.TheVariants.{LastOwner, FilesRemain, NoFile, NoRelease, FileNameTaken, FileBanned}
+use Rattle.index_rules.specs.declared.answer.Refusal.TheVariants.{OverQuota, QuotaBelowCharge, CaseOpen, OwnerCandidate, NoCase}
+use Rattle.index_rules.specs.declared.answer.Refusal.TheVariants.{AttemptsFull, TooFewAttempts, TooEarly, RecentRelease, HomePageActive}
 use Rattle.index_rules.specs.Refusals.{number_of}
 
 abbrev refusal_numbered : ℕ → Refusal

@@ -1,10 +1,12 @@
 -- An accepted request on a file that is asked again is already so.
-use Rattle.std.proofs.Common.{◌≡◌, ℕ, true, false, not, ◌&&◌, ◌==◌, inl, refl, ap, ◌∙◌, Option, Some, None, length, option_map, option_and_then}
+use Rattle.std.proofs.Common.{◌≡◌, ℕ, true, false, not, ◌&&◌, ◌==◌, inl, refl, ap, ◌∙◌, Option, Some, None, length, option_map}
+use Rattle.std.proofs.Common.{option_and_then}
 use Rattle.std.specs.Prelude.{nat_lt}
 use Rattle.std.specs.Option.{option_map_or}
 use Rattle.std.proofs.lemmas.Bool.{eq-eqb}
 use Rattle.index_digest.specs.Digest.{read_digest, sha256}
-use Rattle.index_rules.specs.declared.answer.Refusal.TheVariants.{BadToken, NotOffice, BadFileName, BadText, BadDigest, TooLarge, DigestMismatch, NoProject, NotOwner, NoFile, FileBanned}
+use Rattle.index_rules.specs.declared.answer.Refusal.TheVariants.{BadToken, NotOffice, BadFileName, BadText, BadDigest, TooLarge}
+use Rattle.index_rules.specs.declared.answer.Refusal.TheVariants.{DigestMismatch, NoProject, NotOwner, NoFile, FileBanned}
 use Rattle.index_rules.specs.declared.call.Request.{Request}
 use Rattle.index_rules.specs.declared.call.Request.TheVariants.{Upload, Delete, BanFile}
 use Rattle.index_rules.specs.Maps.{Bytes}
@@ -21,7 +23,8 @@ use Rattle.index_rules.proofs.PastReading.{read_itself, read_key, at_key}
 use Rattle.index_rules.proofs.BindLemmas.{known_upload, declares_body}
 use Rattle.index_rules.proofs.RetryWords.{of, twice, after, already, held_same, known_same}
 
-no_other : (digest : Bytes) (size : ℕ) (f requires : Bytes) → is_other_file (Some digest) size (Some (file_of_upload f requires true (digest, size))) ≡ false
+no_other : (digest : Bytes) (size : ℕ) (f requires : Bytes)
+    → is_other_file (Some digest) size (Some (file_of_upload f requires true (digest, size))) ≡ false
 no_other digest size f requires = (λ i. not (same-refl digest i && (size == size))) ∙ ap not (eq-eqb size size refl)
 
 deleted : (f requires : Bytes) (first : Option (Bytes × ℕ)) → not (is_undeleted (option_map (file_of_upload f requires false) first)) ≡ true
@@ -30,7 +33,8 @@ deleted f requires (Some first) = refl
 
 module _ (h : History) (actor token : Bytes) (at again : ℕ) (valid : nat_lt last_moment again ≡ false) where
   abbrev IsRepeated : Request → Type 0
-  IsRepeated r = IsLegal (after h actor token at again r) → verdict_after (after h actor token at again r) (twice h actor token at again r) ≡ AlreadySo
+  IsRepeated r = IsLegal (after h actor token at again r)
+      → verdict_after (after h actor token at again r) (twice h actor token at again r) ≡ AlreadySo
 
   pub upload_again : (file declared body requires : Bytes) → IsRepeated (Upload file declared body requires)
   upload_again file declared body requires legal =
@@ -38,11 +42,14 @@ module _ (h : History) (actor token : Bytes) (at again : ℕ) (valid : nat_lt la
       let then : History = after h actor token at again r in
       let all = accepted (of h actor token at again r) (facts_after h (of h actor token at again r)) legal.1 in
       let reads : read_file file ≡ Some file = read_itself file (all.not_refused BadFileName refl) in
-      let known : first_upload_after then file ≡ Some (sha256 body, length body) = known_upload then legal file (sha256 body, length body) (inl (reads, refl)) in
+      let known : first_upload_after then file ≡ Some (sha256 body, length body) =
+      known_upload then legal file (sha256 body, length body) (inl (reads, refl)) in
       let digest : read_digest declared ≡ Some (sha256 body) = declares_body h at token r legal.1 in
       let there : is_undeleted_after then file ≡ true = at_key (read_file file) file reads true (is_undeleted_after h file) in
-      let found : option_and_then (file_after then) (read_file file) ≡ Some (file_of_upload file (requires_after then file) true (sha256 body, length body)) =
-      ap (option_and_then (file_after then)) reads ∙ (λ i. option_map (file_of_upload file (requires_after then file) (there i)) (known i)) in
+      let found : option_and_then (file_after then) (read_file file)
+      ≡ Some (file_of_upload file (requires_after then file) true (sha256 body, length body)) =
+      ap (option_and_then (file_after then)) reads
+      ∙ (λ i. option_map (file_of_upload file (requires_after then file) (there i)) (known i)) in
       already h actor token at again r (
         valid,
         (
@@ -62,11 +69,13 @@ module _ (h : History) (actor token : Bytes) (at again : ℕ) (valid : nat_lt la
                       (
                         all.not_refused NotOwner refl,
                         (
-                          (λ i. is_other_file (digest i) (length body) (found i)) ∙ no_other (sha256 body) (length body) file (requires_after then file),
+                          (λ i. is_other_file (digest i) (length body) (found i))
+                              ∙ no_other (sha256 body) (length body) file (requires_after then file),
                           (
                             all.not_refused FileBanned refl,
                             (
-                              ap (λ o. not (is_undeleted o) && exceeds_quota (length body) (option_and_then (name_after then) (name_key r))) found,
+                              ap (λ o. not (is_undeleted o) && exceeds_quota (length body) (option_and_then (name_after then) (name_key r)))
+                                  found,
                               tt,
                             ),
                           ),
@@ -109,7 +118,8 @@ module _ (h : History) (actor token : Bytes) (at again : ℕ) (valid : nat_lt la
         ),
       )
       (ap (λ read. not (is_undeleted (option_and_then (file_after then) read))) reads
-      ∙ ap (λ b. not (is_undeleted (option_map (file_of_upload f (requires_after h f) b) (first_upload_after h f)))) (at_key (read_file file) f reads false (is_undeleted_after h f))
+      ∙ ap (λ b. not (is_undeleted (option_map (file_of_upload f (requires_after h f) b) (first_upload_after h f))))
+      (at_key (read_file file) f reads false (is_undeleted_after h f))
       ∙ deleted f (requires_after h f) (first_upload_after h f))
 
   pub ban_again : (file : Bytes) → IsRepeated (BanFile file)
@@ -134,4 +144,5 @@ module _ (h : History) (actor token : Bytes) (at again : ℕ) (valid : nat_lt la
           ),
         ),
       )
-      (ap (λ read. option_map_or (is_banned_after (after h actor token at again r)) read false) reads ∙ at_key (read_file file) f reads true (is_banned_after h f))
+      (ap (λ read. option_map_or (is_banned_after (after h actor token at again r)) read false) reads
+      ∙ at_key (read_file file) f reads true (is_banned_after h f))

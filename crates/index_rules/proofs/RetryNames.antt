@@ -5,7 +5,8 @@ use Rattle.std.specs.Option.{option_map_or}
 use Rattle.std.proofs.lemmas.Bool.{eq-eqb, and_from, and_left, and_parts, and_right, not_from_false, not_from_true}
 use Rattle.index_names.specs.Project.{read_name}
 use Rattle.index_names.specs.Release.{read_release}
-use Rattle.index_rules.specs.declared.answer.Refusal.TheVariants.{BadToken, NotOffice, BadUser, BadName, BadRelease, BadText, QuotaTooLarge, NoUser, NoProject, NotOwner, NoRelease, QuotaBelowCharge}
+use Rattle.index_rules.specs.declared.answer.Refusal.TheVariants.{BadToken, NotOffice, BadUser, BadName, BadRelease, BadText, QuotaTooLarge}
+use Rattle.index_rules.specs.declared.answer.Refusal.TheVariants.{NoUser, NoProject, NotOwner, NoRelease, QuotaBelowCharge}
 use Rattle.index_rules.specs.declared.call.Request.{Request}
 use Rattle.index_rules.specs.declared.call.Request.TheVariants.{SetQuota, Claim, AddOwner, RemoveOwner, Yank, Unyank, Prohibit, Allow}
 use Rattle.index_rules.specs.Maps.{Bytes, same}
@@ -16,7 +17,8 @@ use Rattle.index_rules.specs.Facts.{at_both, of_both}
 use Rattle.index_rules.specs.Verdict.{Accept, AlreadySo, held_project, is_prohibited, last_moment}
 use Rattle.index_rules.specs.History.{History, is_read_as}
 use Rattle.index_rules.specs.PastUsers.{bearer_after}
-use Rattle.index_rules.specs.PastNames.{State, Free, Held, Prohibited, state_after, quota_after, is_held_now, is_given_after, owns_after, owns_alone_after, reason_after, yank_after}
+use Rattle.index_rules.specs.PastNames.{State, Free, Held, Prohibited, state_after, quota_after, is_held_now, is_given_after, owns_after}
+use Rattle.index_rules.specs.PastNames.{owns_alone_after, reason_after, yank_after}
 use Rattle.index_rules.specs.StandsFor.{name_after, project_after, record_of_state}
 use Rattle.index_rules.specs.Legal.{facts_after, verdict_after}
 use Rattle.index_rules.proofs.Accepted.{accepted}
@@ -25,7 +27,8 @@ use Rattle.index_rules.proofs.PastReading.{read_key, at_key}
 use Rattle.index_rules.proofs.RetryWords.{of, twice, after, already, held_now, held_same, owns_now}
 
 below_alike : (quota : ℕ) (s : State) (p q : Project) → p.charge ≡ q.charge
-    → option_map_or (λ project. nat_lt quota project.charge) (held_project (record_of_state s p)) false ≡ option_map_or (λ project. nat_lt quota project.charge) (held_project (record_of_state s q)) false
+    → option_map_or (λ project. nat_lt quota project.charge) (held_project (record_of_state s p)) false
+    ≡ option_map_or (λ project. nat_lt quota project.charge) (held_project (record_of_state s q)) false
 below_alike quota Free p q same = refl
 below_alike quota Held p q same = ap (nat_lt quota) same
 below_alike quota Prohibited p q same = refl
@@ -42,12 +45,15 @@ still_true false before is = is
 pub reads_as : (read : Option Bytes) (n : Bytes) → read ≡ Some n → is_read_as read n ≡ true
 reads_as read n reads = ap (λ read. is_read_as read n) reads ∙ same-refl n
 
-module _ (h : History) (actor token : Bytes) (at again : ℕ) (valid : nat_lt last_moment again ≡ false) (bearer : bearer_after h token ≡ Some actor) where
+module _ (h : History) (actor token : Bytes) (at again : ℕ) (valid : nat_lt last_moment again ≡ false)
+    (bearer : bearer_after h token ≡ Some actor) where
   abbrev IsRepeated : Request → Type 0
-  IsRepeated r = verdict_after h (of h actor token at again r) ≡ Accept → verdict_after (after h actor token at again r) (twice h actor token at again r) ≡ AlreadySo
+  IsRepeated r = verdict_after h (of h actor token at again r) ≡ Accept
+      → verdict_after (after h actor token at again r) (twice h actor token at again r) ≡ AlreadySo
 
   below_same : (quota : ℕ) (name : Bytes) (key : Option Bytes)
-      → option_map_or (λ project. nat_lt quota project.charge) (held_project (option_and_then (name_after (after h actor token at again (SetQuota name quota))) key)) false
+      → option_map_or (λ project. nat_lt quota project.charge)
+      (held_project (option_and_then (name_after (after h actor token at again (SetQuota name quota))) key)) false
       ≡ option_map_or (λ project. nat_lt quota project.charge) (held_project (option_and_then (name_after h) key)) false
   below_same quota name None = refl
   below_same quota name (Some n) = below_alike quota (state_after h n) _ _ refl
@@ -81,8 +87,10 @@ module _ (h : History) (actor token : Bytes) (at again : ℕ) (valid : nat_lt la
           ),
         ),
       )
-      (ap (λ read. option_map_or (λ project. quota == project.quota) (held_project (option_and_then (name_after (after h actor token at again r)) read)) false) reads
-      ∙ (λ i. option_map_or (λ project. quota == project.quota) (held_project (record_of_state (held i) (project_after (after h actor token at again r) n))) false)
+      (ap (λ read. option_map_or (λ project. quota == project.quota)
+      (held_project (option_and_then (name_after (after h actor token at again r)) read)) false) reads
+      ∙ (λ i. option_map_or (λ project. quota == project.quota)
+      (held_project (record_of_state (held i) (project_after (after h actor token at again r) n))) false)
       ∙ ap (λ q. quota == q) (at_key (read_name name) n reads quota (quota_after h n)) ∙ eq-eqb quota quota refl)
 
   pub claim_again : (name : Bytes) → IsRepeated (Claim name)
@@ -102,7 +110,8 @@ module _ (h : History) (actor token : Bytes) (at again : ℕ) (valid : nat_lt la
           (
             all.not_refused BadName refl,
             (
-              ap (λ read. is_prohibited (option_and_then (name_after (after h actor token at again r)) read)) reads ∙ ap (λ s. is_prohibited (record_of_state s (project_after (after h actor token at again r) n))) held,
+              ap (λ read. is_prohibited (option_and_then (name_after (after h actor token at again r)) read)) reads
+                  ∙ ap (λ s. is_prohibited (record_of_state s (project_after (after h actor token at again r) n))) held,
               (
                 and_right _ _ (not_from_true _ owns),
                 tt,
@@ -121,7 +130,8 @@ module _ (h : History) (actor token : Bytes) (at again : ℕ) (valid : nat_lt la
       let u : Bytes = or_empty (read_user user) in
       let reads : read_name name ≡ Some n = read_key (read_name name) (all.not_refused BadName refl) in
       let reads_user : read_user user ≡ Some u = read_key (read_user user) (all.not_refused BadUser refl) in
-      let owned = and_parts (is_held_now (state_after h n)) (is_given_after h n actor) (owns_now h token actor bearer (read_name name) n reads (all.not_refused NotOwner refl)) in
+      let owned = and_parts (is_held_now (state_after h n)) (is_given_after h n actor)
+      (owns_now h token actor bearer (read_name name) n reads (all.not_refused NotOwner refl)) in
       let owns : of_both (owns_after (after h actor token at again r)) (read_name name) (bearer_after h token) ≡ true =
       (λ i. of_both (owns_after (after h actor token at again r)) (reads i) (bearer i))
       ∙ and_from _ _ owned.0 (still_true (is_read_as (read_name name) n && is_read_as (read_user user) actor) _ owned.1) in
@@ -148,7 +158,8 @@ module _ (h : History) (actor token : Bytes) (at again : ℕ) (valid : nat_lt la
         ),
       )
       ((λ i. of_both (owns_after (after h actor token at again r)) (reads i) (reads_user i))
-      ∙ and_from _ _ owned.0 (ap (λ b. cond b true (is_given_after h n u)) (and_from _ _ (reads_as (read_name name) n reads) (reads_as (read_user user) u reads_user))))
+      ∙ and_from _ _ owned.0 (ap (λ b. cond b true (is_given_after h n u))
+      (and_from _ _ (reads_as (read_name name) n reads) (reads_as (read_user user) u reads_user))))
 
   pub remove_owner_again : (name user : Bytes) → is_read_as (read_user user) actor ≡ false → IsRepeated (RemoveOwner name user)
   remove_owner_again name user other accepts =
@@ -158,12 +169,16 @@ module _ (h : History) (actor token : Bytes) (at again : ℕ) (valid : nat_lt la
       let u : Bytes = or_empty (read_user user) in
       let reads : read_name name ≡ Some n = read_key (read_name name) (all.not_refused BadName refl) in
       let reads_user : read_user user ≡ Some u = read_key (read_user user) (all.not_refused BadUser refl) in
-      let owned = and_parts (is_held_now (state_after h n)) (is_given_after h n actor) (owns_now h token actor bearer (read_name name) n reads (all.not_refused NotOwner refl)) in
+      let owned = and_parts (is_held_now (state_after h n)) (is_given_after h n actor)
+      (owns_now h token actor bearer (read_name name) n reads (all.not_refused NotOwner refl)) in
       let owns : of_both (owns_after (after h actor token at again r)) (read_name name) (bearer_after h token) ≡ true =
       (λ i. of_both (owns_after (after h actor token at again r)) (reads i) (bearer i))
-      ∙ and_from _ _ owned.0 (ap (λ b. cond b false (is_given_after h n actor)) (and_right (is_read_as (read_name name) n) _ other) ∙ owned.1) in
+      ∙ and_from _ _ owned.0 (ap (λ b. cond b false (is_given_after h n actor)) (and_right (is_read_as (read_name name) n) _ other)
+      ∙ owned.1) in
       let gone : owns_after (after h actor token at again r) n u ≡ false =
-      and_right (is_held_now (state_after h n)) _ (ap (λ b. cond b false (is_given_after h n u)) (and_from _ _ (reads_as (read_name name) n reads) (reads_as (read_user user) u reads_user))) in
+      and_right (is_held_now (state_after h n)) _
+      (ap (λ b. cond b false (is_given_after h n u))
+      (and_from _ _ (reads_as (read_name name) n reads) (reads_as (read_user user) u reads_user))) in
       already h actor token at again r (
         valid,
         (
@@ -226,7 +241,9 @@ module _ (h : History) (actor token : Bytes) (at again : ℕ) (valid : nat_lt la
         ),
       )
       ((λ i. option_map_or (same reason) (at_both (yank_after (after h actor token at again r)) (reads i) (reads_release i)) false)
-      ∙ (λ i. option_map_or (same reason) (cond (is_held_now (held i)) (cond (and_from _ _ (reads_as (read_name name) n reads) (reads_as (read_release release) y reads_release) i) (Some reason) (reason_after h n y)) None) false)
+      ∙ (λ i. option_map_or (same reason) (cond (is_held_now (held i))
+      (cond (and_from _ _ (reads_as (read_name name) n reads) (reads_as (read_release release) y reads_release) i) (Some reason)
+      (reason_after h n y)) None) false)
       ∙ same-refl reason)
 
   pub unyank_again : (name release : Bytes) → IsRepeated (Unyank name release)
@@ -260,7 +277,9 @@ module _ (h : History) (actor token : Bytes) (at again : ℕ) (valid : nat_lt la
         ),
       )
       ((λ i. is_none (at_both (yank_after (after h actor token at again r)) (reads i) (reads_release i)))
-      ∙ gone_within (is_held_now (state_after h n)) _ (ap (λ b. cond b None (reason_after h n y)) (and_from _ _ (reads_as (read_name name) n reads) (reads_as (read_release release) y reads_release))))
+      ∙ gone_within (is_held_now (state_after h n)) _
+      (ap (λ b. cond b None (reason_after h n y))
+      (and_from _ _ (reads_as (read_name name) n reads) (reads_as (read_release release) y reads_release))))
 
   pub prohibit_again : (name : Bytes) → IsRepeated (Prohibit name)
   prohibit_again name accepts =
@@ -271,7 +290,8 @@ module _ (h : History) (actor token : Bytes) (at again : ℕ) (valid : nat_lt la
       already h actor token at again r
       (valid, (all.not_refused BadToken refl, (all.not_refused NotOffice refl, (all.not_refused BadName refl, tt))))
       (ap (λ read. is_prohibited (option_and_then (name_after (after h actor token at again r)) read)) reads
-      ∙ ap (λ s. is_prohibited (record_of_state s (project_after (after h actor token at again r) n))) (at_key (read_name name) n reads Prohibited (state_after h n)))
+      ∙ ap (λ s. is_prohibited (record_of_state s (project_after (after h actor token at again r) n)))
+      (at_key (read_name name) n reads Prohibited (state_after h n)))
 
   pub allow_again : (name : Bytes) → IsRepeated (Allow name)
   allow_again name accepts =
@@ -282,4 +302,5 @@ module _ (h : History) (actor token : Bytes) (at again : ℕ) (valid : nat_lt la
       already h actor token at again r
       (valid, (all.not_refused BadToken refl, (all.not_refused NotOffice refl, (all.not_refused BadName refl, tt))))
       (ap (λ read. not (is_prohibited (option_and_then (name_after (after h actor token at again r)) read))) reads
-      ∙ ap (λ s. not (is_prohibited (record_of_state s (project_after (after h actor token at again r) n)))) (at_key (read_name name) n reads Free (state_after h n)))
+      ∙ ap (λ s. not (is_prohibited (record_of_state s (project_after (after h actor token at again r) n))))
+      (at_key (read_name name) n reads Free (state_after h n)))

@@ -20,8 +20,10 @@ Runs-push T (d ∷ calls) (b ∷ answers) T' call answer T'' run is next =
     (run.0, Runs-push (tables_after T d b) calls answers T' call answer T'' run.1 is next)
 
 -- one more answer: if it is the fault that is looked for, its call failed
-pub HasFailed-push : (answers : List Answer) (answer fault : Answer) (first before after : ℕ) → NotFewer first before → FailsAtMostOnce before after
-    → (Contains answers fault → HasFailed first before) → (answer ≡ fault → HasFailed before after) → Contains (answers ++ answer ∷ []) fault → HasFailed first after
+pub HasFailed-push : (answers : List Answer) (answer fault : Answer) (first before after : ℕ) → NotFewer first before
+    → FailsAtMostOnce before after
+    → (Contains answers fault → HasFailed first before) → (answer ≡ fault → HasFailed before after)
+    → Contains (answers ++ answer ∷ []) fault → HasFailed first after
 HasFailed-push answers answer fault first before after counts next earlier last found =
     elim (Contains-push_cases answers answer fault found) [
       | inl there ↦ HasFailed-after first before after (earlier there) next

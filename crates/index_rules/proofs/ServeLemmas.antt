@@ -36,7 +36,8 @@ uploads_or_was : (r : Request) (f : Bytes) (before : Bool) (body : Bytes) → is
 uploads_or_was (Upload file declared bytes requires) f before body is = by (is_read_as (read_file file) f) refl is
   where
     by : (b : Bool) → is_read_as (read_file file) f ≡ b → cond b true before ≡ true
-        → ((read_file file ≡ Some f) × IsOf (cond b bytes body) (sha256 bytes, length bytes)) ⊎ ((before ≡ true) × (cond b bytes body ≡ body))
+        → ((read_file file ≡ Some f) × IsOf (cond b bytes body) (sha256 bytes, length bytes))
+        ⊎ ((before ≡ true) × (cond b bytes body ≡ body))
     by true read is = inl (is_read (read_file file) f read, refl)
     by false read is = inr (is, refl)
 uploads_or_was (Delete file) f before body is = inr (still (is_read_as (read_file file) f) before is, refl)
@@ -45,7 +46,8 @@ uploads_or_was (Prohibit name) f before body is = inr (still (is_read_as (read_n
 uploads_or_was r f before body is = inr (is, refl)
 
 -- the bytes of an undeleted file are those of an upload
-undeleted_upload : (h : History) (f : Bytes) → is_undeleted_after h f ≡ true → HasUpload h f (sha256 (last_body_after h f), length (last_body_after h f))
+undeleted_upload : (h : History) (f : Bytes) → is_undeleted_after h f ≡ true
+    → HasUpload h f (sha256 (last_body_after h f), length (last_body_after h f))
 undeleted_upload (begins user token) f is = true≢false (sym is)
 undeleted_upload (more h e) f is = elim (uploads_or_was e.call.request f (is_undeleted_after h f) (last_body_after h f) is) [
   | inl now ↦ inl now
@@ -56,7 +58,8 @@ undeleted_upload (more h e) f is = elim (uploads_or_was e.call.request f (is_und
 served_upload : (h : History) (f body : Bytes) → body_after h f ≡ Some body → HasUpload h f (sha256 body, length body)
 served_upload h f body is = by (is_undeleted_after h f) refl is
   where
-    by : (b : Bool) → is_undeleted_after h f ≡ b → cond b (Some (last_body_after h f)) None ≡ Some body → HasUpload h f (sha256 body, length body)
+    by : (b : Bool) → is_undeleted_after h f ≡ b → cond b (Some (last_body_after h f)) None ≡ Some body
+        → HasUpload h f (sha256 body, length body)
     by true there is =
         let same : last_body_after h f ≡ body = cc in
         subst (λ body. HasUpload h f (sha256 body, length body)) same (undeleted_upload h f there)

@@ -16,7 +16,8 @@ use Rattle.index_rules.proofs.SoundDeletes.{IsSound-delete}
 use Rattle.index_rules.proofs.SoundEnds.{nothing_there}
 
 -- if the file is known and deleted, a ban of it is all that comes
-IsSound-ban : (T : Tables) → IsSound T → (file : Bytes) (known : FileRecord) → get T.files file ≡ Some known → known.is_undeleted ≡ false → IsSound (record T { bans = insert T.bans file tt })
+IsSound-ban : (T : Tables) → IsSound T → (file : Bytes) (known : FileRecord) → get T.files file ≡ Some known → known.is_undeleted ≡ false
+    → IsSound (record T { bans = insert T.bans file tt })
 IsSound-ban T sound file known there gone = record {
   one_bearer = sound.one_bearer;
   owners = sound.owners;
@@ -62,6 +63,9 @@ module _ (T : Tables) (file : Bytes) (known : FileRecord) (there : get T.files f
         (λ i. record T { files = sym (file_stays gone) i; bodies = sym (body_stays gone) i; bans = insert T.bans file tt })
         (IsSound-ban T sound file known there gone)
 
-    pub IsSound-ban_undeleted : (project : Project) → known.is_undeleted ≡ true → held_project (get T.names (project_of file)) ≡ Some project → IsSound (with_ban T file known (Some (without_file known.size project)))
+    pub IsSound-ban_undeleted : (project : Project) → known.is_undeleted ≡ true
+        → held_project (get T.names (project_of file)) ≡ Some project
+        → IsSound (with_ban T file known (Some (without_file known.size project)))
     IsSound-ban_undeleted project undeleted at =
-        IsSound-ban _ (IsSound-delete T sound file known project undeleted there at) file (as_deleted known) (get-put_here T.files file (as_deleted known)) refl
+        IsSound-ban _ (IsSound-delete T sound file known project undeleted there at) file (as_deleted known)
+        (get-put_here T.files file (as_deleted known)) refl

@@ -12,7 +12,8 @@ use Rattle.index_rules.proofs.PutLemmas.{each_put, each_without}
 use Rattle.index_rules.proofs.SoundNames.{given, given_owner, given_other}
 
 -- whatever cases are open, if their names are held
-IsSound-cases : (T : Tables) → IsSound T → (cases : Map CaseRecord) → ((name : Bytes) → is_some (get cases name) ≡ true → is_held (get T.names name) ≡ true) → IsSound (record T { cases = cases })
+IsSound-cases : (T : Tables) → IsSound T → (cases : Map CaseRecord)
+    → ((name : Bytes) → is_some (get cases name) ≡ true → is_held (get T.names name) ≡ true) → IsSound (record T { cases = cases })
 IsSound-cases T sound cases held = record {
   one_bearer = sound.one_bearer;
   owners = sound.owners;
@@ -35,15 +36,18 @@ closed name T = record T { cases = remove T.cases name }
 
 pub IsSound-closed : (T : Tables) → IsSound T → (name : Bytes) → IsSound (closed name T)
 IsSound-closed T sound name = IsSound-cases T sound (remove T.cases name)
-    (each_without T.cases name (λ n found. is_some found ≡ true → is_held (get T.names n) ≡ true) (λ is_open. absurd (false≢true is_open)) (λ n _. sound.cases n))
+    (each_without T.cases name (λ n found. is_some found ≡ true
+    → is_held (get T.names n) ≡ true) (λ is_open. absurd (false≢true is_open)) (λ n _. sound.cases n))
 
-pub IsSound-case : (T : Tables) → IsSound T → (name : Bytes) (case : CaseRecord) → is_held (get T.names name) ≡ true → IsSound (record T { cases = insert T.cases name case })
+pub IsSound-case : (T : Tables) → IsSound T → (name : Bytes) (case : CaseRecord) → is_held (get T.names name) ≡ true
+    → IsSound (record T { cases = insert T.cases name case })
 IsSound-case T sound name case held = IsSound-cases T sound (insert T.cases name case)
     (each_put T.cases name case (λ n found. is_some found ≡ true → is_held (get T.names n) ≡ true) (λ _. held) (λ n _. sound.cases n))
 
 -- ---- a held name that is given to one user alone
 
-pub IsSound-transfer : (T : Tables) → IsSound T → (name candidate : Bytes) → is_held (get T.names name) ≡ true → IsSound (record T { owners = given T name candidate })
+pub IsSound-transfer : (T : Tables) → IsSound T → (name candidate : Bytes) → is_held (get T.names name) ≡ true
+    → IsSound (record T { owners = given T name candidate })
 IsSound-transfer T sound name candidate held = record {
   one_bearer = sound.one_bearer;
   owners = λ n user owns. elim (cases_same n name) [

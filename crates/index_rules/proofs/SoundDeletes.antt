@@ -18,7 +18,8 @@ use Rattle.index_rules.proofs.PutLemmas.{each_put, each_without, get-put_here, g
 use Rattle.index_rules.proofs.SoundNames.{still_held}
 
 module _ (T : Tables) (sound : IsSound T) (file : Bytes) (known : FileRecord) (project : Project)
-    (undeleted : known.is_undeleted ≡ true) (there : get T.files file ≡ Some known) (at : held_project (get T.names (project_of file)) ≡ Some project) where
+    (undeleted : known.is_undeleted ≡ true) (there : get T.files file ≡ Some known)
+    (at : held_project (get T.names (project_of file)) ≡ Some project) where
   abbrev left : Project
   left = without_file known.size project
 
@@ -33,36 +34,47 @@ module _ (T : Tables) (sound : IsSound T) (file : Bytes) (known : FileRecord) (p
   project_is = (sound.spelled file known there).project
 
   charge_in-delete : (name : Bytes) → charge_in with_one_less name + cond (same name (project_of file)) known.size 0 ≡ charge_in T name
-  charge_in-delete name = ap (λ q. charge_in with_one_less name + cond (same name q) known.size 0) (sym project_is) ∙ total-delete (λ known. known.size) T file known undeleted there name
+  charge_in-delete name = ap (λ q. charge_in with_one_less name + cond (same name q) known.size 0) (sym project_is)
+      ∙ total-delete (λ known. known.size) T file known undeleted there name
 
-  undeleted_in-delete : (name : Bytes) → undeleted_count_in with_one_less name + cond (same name (project_of file)) 1 0 ≡ undeleted_count_in T name
-  undeleted_in-delete name = ap (λ q. undeleted_count_in with_one_less name + cond (same name q) 1 0) (sym project_is) ∙ total-delete (λ _. 1) T file known undeleted there name
+  undeleted_in-delete : (name : Bytes) → undeleted_count_in with_one_less name + cond (same name (project_of file)) 1 0
+      ≡ undeleted_count_in T name
+  undeleted_in-delete name = ap (λ q. undeleted_count_in with_one_less name + cond (same name q) 1 0) (sym project_is)
+      ∙ total-delete (λ _. 1) T file known undeleted there name
 
-  charge-delete : (name : Bytes) (p : Project) → held_project (get with_one_less.names name) ≡ Some p → p.charge ≡ charge_in with_one_less name
-  charge-delete = each_put T.names (project_of file) (Held left) (λ name found. (p : Project) → held_project found ≡ Some p → p.charge ≡ charge_in with_one_less name)
+  charge-delete : (name : Bytes) (p : Project) → held_project (get with_one_less.names name) ≡ Some p
+      → p.charge ≡ charge_in with_one_less name
+  charge-delete = each_put T.names (project_of file) (Held left) (λ name found. (p : Project) → held_project found ≡ Some p
+      → p.charge ≡ charge_in with_one_less name)
       (λ p e.
       let is : left ≡ p = cc in
       let more : charge_in with_one_less (project_of file) + known.size ≡ charge_in T (project_of file) =
-      sym (ap (λ b. charge_in with_one_less (project_of file) + cond b known.size 0) (same-refl (project_of file))) ∙ charge_in-delete (project_of file) in
+      sym (ap (λ b. charge_in with_one_less (project_of file) + cond b known.size 0) (same-refl (project_of file)))
+      ∙ charge_in-delete (project_of file) in
       let before : project.charge ≡ charge_in T (project_of file) = sound.charge (project_of file) project at in
       let less : project.charge - known.size ≡ charge_in with_one_less (project_of file) = omega (arith, more, before) in
       ap (λ (r : Project). r.charge) (sym is) ∙ less)
       (λ name other p e.
-      let more : charge_in with_one_less name + 0 ≡ charge_in T name = sym (ap (λ b. charge_in with_one_less name + cond b known.size 0) other) ∙ charge_in-delete name in
+      let more : charge_in with_one_less name + 0 ≡ charge_in T name =
+      sym (ap (λ b. charge_in with_one_less name + cond b known.size 0) other) ∙ charge_in-delete name in
       let before : p.charge ≡ charge_in T name = sound.charge name p e in
       omega (arith, more, before))
 
-  undeleted-delete : (name : Bytes) (p : Project) → held_project (get with_one_less.names name) ≡ Some p → p.undeleted ≡ undeleted_count_in with_one_less name
-  undeleted-delete = each_put T.names (project_of file) (Held left) (λ name found. (p : Project) → held_project found ≡ Some p → p.undeleted ≡ undeleted_count_in with_one_less name)
+  undeleted-delete : (name : Bytes) (p : Project) → held_project (get with_one_less.names name) ≡ Some p
+      → p.undeleted ≡ undeleted_count_in with_one_less name
+  undeleted-delete = each_put T.names (project_of file) (Held left) (λ name found. (p : Project) → held_project found ≡ Some p
+      → p.undeleted ≡ undeleted_count_in with_one_less name)
       (λ p e.
       let is : left ≡ p = cc in
       let more : undeleted_count_in with_one_less (project_of file) + 1 ≡ undeleted_count_in T (project_of file) =
-      sym (ap (λ b. undeleted_count_in with_one_less (project_of file) + cond b 1 0) (same-refl (project_of file))) ∙ undeleted_in-delete (project_of file) in
+      sym (ap (λ b. undeleted_count_in with_one_less (project_of file) + cond b 1 0) (same-refl (project_of file)))
+      ∙ undeleted_in-delete (project_of file) in
       let before : project.undeleted ≡ undeleted_count_in T (project_of file) = sound.undeleted (project_of file) project at in
       let less : project.undeleted - 1 ≡ undeleted_count_in with_one_less (project_of file) = omega (arith, more, before) in
       ap (λ (r : Project). r.undeleted) (sym is) ∙ less)
       (λ name other p e.
-      let more : undeleted_count_in with_one_less name + 0 ≡ undeleted_count_in T name = sym (ap (λ b. undeleted_count_in with_one_less name + cond b 1 0) other) ∙ undeleted_in-delete name in
+      let more : undeleted_count_in with_one_less name + 0 ≡ undeleted_count_in T name =
+      sym (ap (λ b. undeleted_count_in with_one_less name + cond b 1 0) other) ∙ undeleted_in-delete name in
       let before : p.undeleted ≡ undeleted_count_in T name = sound.undeleted name p e in
       omega (arith, more, before))
 
@@ -70,7 +82,8 @@ module _ (T : Tables) (sound : IsSound T) (file : Bytes) (known : FileRecord) (p
   IsSound-delete = record {
     one_bearer = sound.one_bearer;
     owners = λ name user owns. still_held T (project_of file) left name (sound.owners name user owns);
-    owned = each_put T.names (project_of file) (Held left) (λ name found. is_held found ≡ true → (user : Bytes) × (owns_in T name user ≡ true))
+    owned = each_put T.names (project_of file) (Held left) (λ name found. is_held found ≡ true
+        → (user : Bytes) × (owns_in T name user ≡ true))
         (λ _. sound.owned (project_of file) (ap is_some at))
         (λ name _. sound.owned name);
     yanks = λ name release yanked. still_held T (project_of file) left name (sound.yanks name release yanked);
@@ -81,7 +94,8 @@ module _ (T : Tables) (sound : IsSound T) (file : Bytes) (known : FileRecord) (p
         let before = sound.spelled file known there in
         subst (IsRecordOf file) is (record { is_file_name = before.is_file_name; project = before.project; release = before.release }))
         (λ q _. sound.spelled q);
-    undeleted_held = each_put T.files file (as_deleted known) (λ q found. (k : FileRecord) → found ≡ Some k → k.is_undeleted ≡ true → is_held (get with_one_less.names k.project) ≡ true)
+    undeleted_held = each_put T.files file (as_deleted known) (λ q found. (k : FileRecord) → found ≡ Some k → k.is_undeleted ≡ true
+        → is_held (get with_one_less.names k.project) ≡ true)
         (λ k e still. let is : as_deleted known ≡ k = cc in absurd (false≢true (ap (λ (r : FileRecord). r.is_undeleted) is ∙ still)))
         (λ q _ k e still. still_held T (project_of file) left k.project (sound.undeleted_held q k e still));
     charge = charge-delete;
@@ -96,10 +110,12 @@ module _ (T : Tables) (sound : IsSound T) (file : Bytes) (known : FileRecord) (p
     bodies = each_without T.bodies file (λ q found. is_some found ≡ is_undeleted (get with_one_less.files q))
         (sym (ap is_undeleted (get-put_here T.files file (as_deleted known))))
         (λ q other. sound.bodies q ∙ sym (ap is_undeleted (get-put_other T.files file (as_deleted known) q other)));
-    bytes = each_without T.bodies file (λ q found. (b : Bytes) (k : FileRecord) → found ≡ Some b → get with_one_less.files q ≡ Some k → IsBodyOf k b)
+    bytes = each_without T.bodies file (λ q found. (b : Bytes) (k : FileRecord) → found ≡ Some b → get with_one_less.files q ≡ Some k
+        → IsBodyOf k b)
         (λ b k e at_k. cc)
         (λ q other b k e at_k. sound.bytes q b k e (sym (get-put_other T.files file (as_deleted known) q other) ∙ at_k));
-    bans = each_put T.files file (as_deleted known) (λ q found. is_banned_in T q ≡ true → (k : FileRecord) × (found ≡ Some k) × (k.is_undeleted ≡ false))
+    bans = each_put T.files file (as_deleted known) (λ q found. is_banned_in T q ≡ true
+        → (k : FileRecord) × (found ≡ Some k) × (k.is_undeleted ≡ false))
         (λ _. (as_deleted known, refl, refl))
         (λ q _. sound.bans q);
   }

@@ -1,5 +1,6 @@
 -- Sound tables stay sound: after an accepted call, after any answer, after calls in a row.
-use Rattle.std.proofs.Common.{◌≡◌, ℕ, ◌+◌, ◌≤◌, true, false, cond, not, ◌&&◌, refl, sym, ap, ◌∙◌, subst, List, [], ◌∷◌, Option, Some, None, is_some, is_none, option_map, option_and_then, unwrap_or, length, nat_lt, arith}
+use Rattle.std.proofs.Common.{◌≡◌, ℕ, ◌+◌, ◌≤◌, true, false, cond, not, ◌&&◌, refl, sym, ap, ◌∙◌, subst, List, [], ◌∷◌, Option, Some, None}
+use Rattle.std.proofs.Common.{is_some, is_none, option_map, option_and_then, unwrap_or, length, nat_lt, arith}
 use Rattle.std.specs.Option.{option_map_or}
 use Rattle.std.specs.FinMap.{get, remove}
 use Rattle.std.proofs.lemmas.Bool.{true≢false, false≢true, not-false, ltb-false}
@@ -7,12 +8,16 @@ use Rattle.index_names.specs.Project.{read_name}
 use Rattle.index_names.specs.Release.{read_release}
 use Rattle.index_names.specs.FileName.{Spelled, read_file_name, project_of, release_of}
 use Rattle.index_digest.specs.Digest.{sha256, read_digest}
-use Rattle.index_rules.specs.declared.answer.Refusal.TheVariants.{BadDigest, BadFileName, BadName, BadUser, DigestMismatch, FileBanned, FilesRemain, LastOwner, NameHeld, NoFile, NoProject, OverQuota, QuotaBelowCharge, TokenTaken}
+use Rattle.index_rules.specs.declared.answer.Refusal.TheVariants.{BadDigest, BadFileName, BadName, BadUser, DigestMismatch, FileBanned}
+use Rattle.index_rules.specs.declared.answer.Refusal.TheVariants.{FilesRemain, LastOwner, NameHeld, NoFile, NoProject, OverQuota}
+use Rattle.index_rules.specs.declared.answer.Refusal.TheVariants.{QuotaBelowCharge, TokenTaken}
 use Rattle.index_rules.specs.declared.answer.Answer.{Answer}
 use Rattle.index_rules.specs.declared.answer.Answer.TheVariants.{Accepted, Already, Refused, Fault}
 use Rattle.index_rules.specs.declared.call.Call.{Call}
 use Rattle.index_rules.specs.declared.call.Request.{Request}
-use Rattle.index_rules.specs.declared.call.Request.TheVariants.{AddUser, SetToken, SetQuota, Claim, AddOwner, RemoveOwner, Upload, Delete, BanFile, Yank, Unyank, Relinquish, Prohibit, Allow, OpenCase, RecordAttempt, Transfer, CloseCase, AnswerCase}
+use Rattle.index_rules.specs.declared.call.Request.TheVariants.{AddUser, SetToken, SetQuota, Claim, AddOwner, RemoveOwner, Upload, Delete}
+use Rattle.index_rules.specs.declared.call.Request.TheVariants.{BanFile, Yank, Unyank, Relinquish, Prohibit, Allow, OpenCase, RecordAttempt}
+use Rattle.index_rules.specs.declared.call.Request.TheVariants.{Transfer, CloseCase, AnswerCase}
 use Rattle.index_rules.specs.declared.records.FileRecord.{FileRecord}
 use Rattle.index_rules.specs.declared.records.NameRecord.{NameRecord}
 use Rattle.index_rules.specs.declared.records.NameRecord.TheVariants.{Held, Prohibited}
@@ -24,7 +29,8 @@ use Rattle.index_rules.specs.Tables.{Tables}
 use Rattle.index_rules.specs.Requests.{read_file}
 use Rattle.index_rules.specs.Facts.{Facts, facts_in, of_both, owns_in, owns_alone_in, is_banned_in}
 use Rattle.index_rules.specs.Verdict.{Accept, verdict_now, exceeds_quota, has_files, is_prohibited, held_project, is_held, is_undeleted}
-use Rattle.index_rules.specs.Effect.{or_empty, no_file, no_project, the_file, the_user, the_project, the_caller, without_file, tables_with_call}
+use Rattle.index_rules.specs.Effect.{or_empty, no_file, no_project, the_file, the_user, the_project, the_caller, without_file}
+use Rattle.index_rules.specs.Effect.{tables_with_call}
 use Rattle.index_rules.specs.Runs.{Answers, Runs, tables_after}
 use Rattle.index_rules.specs.Sound.{IsSound, undeleted_count_in}
 use Rattle.index_rules.proofs.OwnerLists.{same-is}
@@ -53,12 +59,14 @@ project_at : (T : Tables) (name : Option Bytes) → not (is_held (option_and_the
 project_at T None missing = absurd (true≢false missing)
 project_at T (Some name) missing = project_there (held_project (get T.names name)) missing
 
-free_at : (T : Tables) (name : Option Bytes) → is_none name ≡ false → is_held (option_and_then (get T.names) name) ≡ false → is_held (get T.names (or_empty name)) ≡ false
+free_at : (T : Tables) (name : Option Bytes) → is_none name ≡ false → is_held (option_and_then (get T.names) name) ≡ false
+    → is_held (get T.names (or_empty name)) ≡ false
 free_at T None unread free = absurd (true≢false unread)
 free_at T (Some name) unread free = free
 
 -- a prohibited name is not held
-pub no_project_at : (T : Tables) (name : Option Bytes) → is_prohibited (option_and_then (get T.names) name) ≡ true → held_project (get T.names (or_empty name)) ≡ None
+pub no_project_at : (T : Tables) (name : Option Bytes) → is_prohibited (option_and_then (get T.names) name) ≡ true
+    → held_project (get T.names (or_empty name)) ≡ None
 no_project_at T None prohibited = absurd (false≢true prohibited)
 no_project_at T (Some name) prohibited = by (get T.names name) prohibited
   where
@@ -68,16 +76,19 @@ no_project_at T (Some name) prohibited = by (get T.names name) prohibited
     by (Some (Held project)) prohibited = absurd (false≢true prohibited)
 
 -- a name without files that a record holds counts none
-no_files : (T : Tables) → IsSound T → (name : Option Bytes) → not (is_held (option_and_then (get T.names) name)) ≡ false → has_files (option_and_then (get T.names) name) ≡ false
+no_files : (T : Tables) → IsSound T → (name : Option Bytes) → not (is_held (option_and_then (get T.names) name)) ≡ false
+    → has_files (option_and_then (get T.names) name) ≡ false
     → undeleted_count_in T (or_empty name) ≡ 0
 no_files T sound None missing empty = absurd (true≢false missing)
 no_files T sound (Some name) missing empty =
     let project : Project = unwrap_or (held_project (get T.names name)) no_project in
     let held : held_project (get T.names name) ≡ Some project = project_there (held_project (get T.names name)) missing in
-    let most : project.undeleted ≤ 0 = ltb-false 0 project.undeleted (sym (ap (λ o. option_map_or (λ p. nat_lt 0 p.undeleted) o false) held) ∙ empty) in
+    let most : project.undeleted ≤ 0 = ltb-false 0 project.undeleted
+    (sym (ap (λ o. option_map_or (λ p. nat_lt 0 p.undeleted) o false) held) ∙ empty) in
     omega (arith, sound.undeleted name project held, most)
 
-no_owner : (T : Tables) → IsSound T → (name user : Option Bytes) → of_both (owns_in T) name user ≡ true → of_both (owns_alone_in T) name user ≡ false
+no_owner : (T : Tables) → IsSound T → (name user : Option Bytes) → of_both (owns_in T) name user ≡ true
+    → of_both (owns_alone_in T) name user ≡ false
     → IsSound (record T { owners = remove T.owners (or_empty name, or_empty user) })
 no_owner T sound None user owns sole = absurd (false≢true owns)
 no_owner T sound (Some name) None owns sole = absurd (false≢true owns)
@@ -95,11 +106,13 @@ pub file_there : (found : Option FileRecord) → is_none found ≡ false → fou
 file_there None missing = absurd (true≢false missing)
 file_there (Some known) missing = refl
 
-pub undeleted_there : (found : Option FileRecord) → is_undeleted found ≡ true → (found ≡ Some (unwrap_or found no_file)) × ((unwrap_or found no_file).is_undeleted ≡ true)
+pub undeleted_there : (found : Option FileRecord) → is_undeleted found ≡ true
+    → (found ≡ Some (unwrap_or found no_file)) × ((unwrap_or found no_file).is_undeleted ≡ true)
 undeleted_there None undeleted = absurd (false≢true undeleted)
 undeleted_there (Some known) undeleted = (refl, undeleted)
 
-pub digest_is : (declared : Option Bytes) (body : Bytes) → is_none declared ≡ false → option_map_or (λ digest. not (same digest (sha256 body))) declared false ≡ false → sha256 body ≡ or_empty declared
+pub digest_is : (declared : Option Bytes) (body : Bytes) → is_none declared ≡ false
+    → option_map_or (λ digest. not (same digest (sha256 body))) declared false ≡ false → sha256 body ≡ or_empty declared
 digest_is None body unread mismatched = absurd (true≢false unread)
 digest_is (Some digest) body unread mismatched = sym (same-is digest (sha256 body) (not-false _ mismatched))
 
@@ -112,22 +125,29 @@ module _ (T : Tables) (sound : IsSound T) (at : ℕ) (token : Bytes) where
   abbrev facts : Request → Facts
   facts request = facts_in T (of request)
 
-  quota_set : (name : Bytes) (quota : ℕ) → verdict_now T (of (SetQuota name quota)) ≡ Accept → IsSound (tables_with_call T (of (SetQuota name quota)))
+  quota_set : (name : Bytes) (quota : ℕ) → verdict_now T (of (SetQuota name quota)) ≡ Accept
+      → IsSound (tables_with_call T (of (SetQuota name quota)))
   quota_set name quota accepts =
       let all = accepted (of (SetQuota name quota)) (facts (SetQuota name quota)) accepts in
       let project : Project = the_project (facts (SetQuota name quota)) in
       let held : held_project (facts (SetQuota name quota)).name ≡ Some project = project_there _ (all.not_refused NoProject refl) in
-      let fits : project.charge ≤ quota = ltb-false quota project.charge (sym (λ i. option_map_or (λ p. nat_lt quota p.charge) (held i) false) ∙ (all.not_refused QuotaBelowCharge refl)) in
-      IsSound-project T sound (or_empty (read_name name)) project (record project { quota = quota }) (project_at T (read_name name) (all.not_refused NoProject refl)) refl refl fits
+      let fits : project.charge ≤ quota = ltb-false quota project.charge
+      (sym (λ i. option_map_or (λ p. nat_lt quota p.charge) (held i) false) ∙ (all.not_refused QuotaBelowCharge refl)) in
+      IsSound-project T sound (or_empty (read_name name)) project (record project { quota = quota })
+      (project_at T (read_name name) (all.not_refused NoProject refl)) refl refl fits
 
   claimed : (name : Bytes) → verdict_now T (of (Claim name)) ≡ Accept → IsSound (tables_with_call T (of (Claim name)))
   claimed name accepts =
       let all = accepted (of (Claim name)) (facts (Claim name)) accepts in
-      let free : is_held (get T.names (or_empty (read_name name))) ≡ false = free_at T (read_name name) (all.not_refused BadName refl) (and_not _ _ (all.not_refused NameHeld refl) all.not_already) in
+      let free : is_held (get T.names (or_empty (read_name name))) ≡ false =
+      free_at T (read_name name) (all.not_refused BadName refl) (and_not _ _ (all.not_refused NameHeld refl) all.not_already) in
       let n : Bytes = or_empty (read_name name) in
-      IsSound-claim (closed n T) (IsSound-closed T sound n) n free (record { shown = name; quota = first_quota; charge = 0; undeleted = 0; last_upload = None }) (the_caller (facts (Claim name))) refl refl
+      IsSound-claim (closed n T) (IsSound-closed T sound n) n free
+      (record { shown = name; quota = first_quota; charge = 0; undeleted = 0; last_upload = None }) (the_caller (facts (Claim name)))
+      refl refl
 
-  uploaded : (file digest body requires : Bytes) → verdict_now T (of (Upload file digest body requires)) ≡ Accept → IsSound (tables_with_call T (of (Upload file digest body requires)))
+  uploaded : (file digest body requires : Bytes) → verdict_now T (of (Upload file digest body requires)) ≡ Accept
+      → IsSound (tables_with_call T (of (Upload file digest body requires)))
   uploaded file digest body requires accepts =
       let all = accepted (of (Upload file digest body requires)) (facts (Upload file digest body requires)) accepts in
       let f : Facts = facts (Upload file digest body requires) in
@@ -135,15 +155,29 @@ module _ (T : Tables) (sound : IsSound T) (at : ℕ) (token : Bytes) where
       let name_is : f.name ≡ get T.names (project_of file) = ap (λ o. option_and_then (get T.names) (option_map project_of o)) reads in
       let file_is : f.file ≡ get T.files file = ap (option_and_then (get T.files)) reads in
       let held : held_project f.name ≡ Some (the_project f) = project_there _ (all.not_refused NoProject refl) in
-      let within : exceeds_quota (length body) f.name ≡ false = sym (λ i. not (all.not_already i) && exceeds_quota (length body) f.name) ∙ (all.not_refused OverQuota refl) in
-      let fits : (the_project f).charge + length body ≤ (the_project f).quota = ltb-false _ _ (sym (ap (λ o. option_map_or (λ project. nat_lt project.quota (project.charge + length body)) o false) held) ∙ within) in
+      let within : exceeds_quota (length body) f.name ≡ false =
+      sym (λ i. not (all.not_already i) && exceeds_quota (length body) f.name) ∙ (all.not_refused OverQuota refl) in
+      let fits : (the_project f).charge + length body ≤ (the_project f).quota =
+      ltb-false _ _ (sym (ap (λ o. option_map_or (λ project. nat_lt project.quota (project.charge + length body)) o false) held)
+      ∙ within) in
       let ended = without_found T.cases (option_map project_of (read_file file)) (project_of file) (ap (option_map project_of) reads) in
       subst IsSound (λ i. record (tables_with_call T (of (Upload file digest body requires))) { cases = sym ended i })
       (IsSound-upload at (closed (project_of file) T) (IsSound-closed T sound (project_of file)) file
-      (record { project = project_of file; release = release_of file; digest = or_empty (read_digest digest); size = length body; requires_python = requires; is_undeleted = true })
+      (record {
+        project = project_of file;
+        release = release_of file;
+        digest = or_empty (read_digest digest);
+        size = length body;
+        requires_python = requires;
+        is_undeleted = true;
+      })
       body (the_project f) refl (sym (ap is_undeleted file_is) ∙ all.not_already) (sym (ap held_project name_is) ∙ held)
       (record { is_file_name = file_spelled file (all.not_refused BadFileName refl); project = refl; release = refl })
-      (record { size = refl; digest = digest_is (read_digest digest) body (all.not_refused BadDigest refl) (all.not_refused DigestMismatch refl) })
+      (record {
+        size = refl;
+        digest = digest_is (read_digest digest) body (all.not_refused BadDigest refl)
+            (all.not_refused DigestMismatch refl);
+      })
       fits
       (sym (ap (λ o. option_map_or (is_banned_in T) o false) reads) ∙ all.not_refused FileBanned refl))
 
@@ -155,7 +189,8 @@ module _ (T : Tables) (sound : IsSound T) (at : ℕ) (token : Bytes) where
       let name_is : f.name ≡ get T.names (project_of file) = ap (λ o. option_and_then (get T.names) (option_map project_of o)) reads in
       let file_is : f.file ≡ get T.files file = ap (option_and_then (get T.files)) reads in
       let known = undeleted_there f.file (not-false _ all.not_already) in
-      IsSound-delete (closed (project_of file) T) (IsSound-closed T sound (project_of file)) file (the_file f) (the_project f) known.1 (sym file_is ∙ known.0) (sym (ap held_project name_is) ∙ project_there _ (all.not_refused NoProject refl))
+      IsSound-delete (closed (project_of file) T) (IsSound-closed T sound (project_of file)) file (the_file f) (the_project f) known.1
+      (sym file_is ∙ known.0) (sym (ap held_project name_is) ∙ project_there _ (all.not_refused NoProject refl))
 
   banned : (file : Bytes) → verdict_now T (of (BanFile file)) ≡ Accept → IsSound (tables_with_call T (of (BanFile file)))
   banned file accepts =
@@ -167,10 +202,14 @@ module _ (T : Tables) (sound : IsSound T) (at : ℕ) (token : Bytes) where
       let found : f.file ≡ Some known = file_there f.file (all.not_refused NoFile refl) in
       let there : get T.files file ≡ Some known = sym (ap (option_and_then (get T.files)) reads) ∙ found in
       let is : is_undeleted f.file ≡ known.is_undeleted = ap is_undeleted found in
-      elim (is_undeleted f.file) as (λ b. is_undeleted f.file ≡ b → IsSound (with_ban T file known (cond b (option_map (without_file known.size) (held_project f.name)) None))) [
+      elim (is_undeleted f.file) as (λ b. is_undeleted f.file ≡ b
+      → IsSound (with_ban T file known (cond b (option_map (without_file known.size) (held_project f.name)) None))) [
         | true ↦ λ undeleted.
-            let held : is_held (get T.names (project_of file)) ≡ true = ap (λ n. is_held (get T.names n)) (sym (sound.spelled file known there).project) ∙ sound.undeleted_held file known there (sym is ∙ undeleted) in
-            let project : held_project f.name ≡ Some (the_project f) = some_there (held_project f.name) no_project (ap is_held name_is ∙ held) in
+            let held : is_held (get T.names (project_of file)) ≡ true =
+            ap (λ n. is_held (get T.names n)) (sym (sound.spelled file known there).project)
+            ∙ sound.undeleted_held file known there (sym is ∙ undeleted) in
+            let project : held_project f.name ≡ Some (the_project f) =
+            some_there (held_project f.name) no_project (ap is_held name_is ∙ held) in
             subst (λ left. IsSound (with_ban T file known (option_map (without_file known.size) left))) (sym project)
             (IsSound-ban_undeleted T file known there sound (the_project f) (sym is ∙ undeleted) (sym (ap held_project name_is) ∙ project))
         | false ↦ λ gone. IsSound-ban_deleted T file known there sound (sym is ∙ gone)
@@ -180,30 +219,39 @@ module _ (T : Tables) (sound : IsSound T) (at : ℕ) (token : Bytes) where
   each_request (AddUser user office digest) accepts =
       let all = accepted (of (AddUser user office digest)) (facts (AddUser user office digest)) accepts in
       IsSound-user T sound (or_empty (read_user user)) (record { office = office; token = or_empty (read_token digest) })
-      (not_taken T sound.one_bearer (read_token digest) (read_user user) (all.not_refused BadDigest refl) (all.not_refused BadUser refl) (all.not_refused TokenTaken refl))
+      (not_taken T sound.one_bearer (read_token digest) (read_user user) (all.not_refused BadDigest refl) (all.not_refused BadUser refl)
+      (all.not_refused TokenTaken refl))
   each_request (SetToken user digest) accepts =
       let all = accepted (of (SetToken user digest)) (facts (SetToken user digest)) accepts in
-      IsSound-user T sound (or_empty (read_user user)) (record { office = (the_user (facts (SetToken user digest))).office; token = or_empty (read_token digest) })
-      (not_taken T sound.one_bearer (read_token digest) (read_user user) (all.not_refused BadDigest refl) (all.not_refused BadUser refl) (all.not_refused TokenTaken refl))
+      IsSound-user T sound (or_empty (read_user user))
+      (record { office = (the_user (facts (SetToken user digest))).office; token = or_empty (read_token digest) })
+      (not_taken T sound.one_bearer (read_token digest) (read_user user) (all.not_refused BadDigest refl) (all.not_refused BadUser refl)
+      (all.not_refused TokenTaken refl))
   each_request (SetQuota name quota) accepts = quota_set name quota accepts
   each_request (Claim name) accepts = claimed name accepts
   each_request (AddOwner name user) accepts =
       let all = accepted (of (AddOwner name user)) (facts (AddOwner name user)) accepts in
-      IsSound-owner (closed (or_empty (read_name name)) T) (IsSound-closed T sound (or_empty (read_name name))) (or_empty (read_name name)) (or_empty (read_user user)) (ap is_some (project_at T (read_name name) (all.not_refused NoProject refl)))
+      IsSound-owner (closed (or_empty (read_name name)) T) (IsSound-closed T sound (or_empty (read_name name))) (or_empty (read_name name))
+      (or_empty (read_user user)) (ap is_some (project_at T (read_name name) (all.not_refused NoProject refl)))
   each_request (RemoveOwner name user) accepts =
       let all = accepted (of (RemoveOwner name user)) (facts (RemoveOwner name user)) accepts in
-      no_owner (closed (or_empty (read_name name)) T) (IsSound-closed T sound (or_empty (read_name name))) (read_name name) (read_user user) (not-false _ all.not_already) (all.not_refused LastOwner refl)
+      no_owner (closed (or_empty (read_name name)) T) (IsSound-closed T sound (or_empty (read_name name))) (read_name name) (read_user user)
+      (not-false _ all.not_already) (all.not_refused LastOwner refl)
   each_request (Upload file digest body requires) accepts = uploaded file digest body requires accepts
   each_request (Delete file) accepts = deleted_one file accepts
   each_request (BanFile file) accepts = banned file accepts
   each_request (Yank name release reason) accepts =
       let all = accepted (of (Yank name release reason)) (facts (Yank name release reason)) accepts in
-      IsSound-yank (closed (or_empty (read_name name)) T) (IsSound-closed T sound (or_empty (read_name name))) (or_empty (read_name name)) (or_empty (read_release release)) reason (ap is_some (project_at T (read_name name) (all.not_refused NoProject refl)))
-  each_request (Unyank name release) accepts = IsSound-no_yank (closed (or_empty (read_name name)) T) (IsSound-closed T sound (or_empty (read_name name))) (or_empty (read_name name)) (or_empty (read_release release))
+      IsSound-yank (closed (or_empty (read_name name)) T) (IsSound-closed T sound (or_empty (read_name name))) (or_empty (read_name name))
+      (or_empty (read_release release)) reason (ap is_some (project_at T (read_name name) (all.not_refused NoProject refl)))
+  each_request (Unyank name release) accepts =
+      IsSound-no_yank (closed (or_empty (read_name name)) T) (IsSound-closed T sound (or_empty (read_name name)))
+      (or_empty (read_name name)) (or_empty (read_release release))
   each_request (Relinquish name) accepts =
       let all = accepted (of (Relinquish name)) (facts (Relinquish name)) accepts in
       let n : Bytes = or_empty (read_name name) in
-      IsSound-relinquish (closed n T) (IsSound-closed T sound n) n (get-without_here T.cases n) (no_files T sound (read_name name) (all.not_refused NoProject refl) (all.not_refused FilesRemain refl))
+      IsSound-relinquish (closed n T) (IsSound-closed T sound n) n (get-without_here T.cases n)
+      (no_files T sound (read_name name) (all.not_refused NoProject refl) (all.not_refused FilesRemain refl))
   each_request (Prohibit name) accepts =
       let n : Bytes = or_empty (read_name name) in
       IsSound-prohibit (closed n T) (IsSound-closed T sound n) n (get-without_here T.cases n)
@@ -220,7 +268,8 @@ module _ (T : Tables) (sound : IsSound T) (at : ℕ) (token : Bytes) where
       IsSound-case T sound (or_empty (read_name name)) _ (ap is_some (project_at T (read_name name) (all.not_refused NoProject refl)))
   each_request (Transfer name quiet) accepts =
       let all = accepted (of (Transfer name quiet)) (facts (Transfer name quiet)) accepts in
-      IsSound-transfer (closed (or_empty (read_name name)) T) (IsSound-closed T sound (or_empty (read_name name))) (or_empty (read_name name)) _ (ap is_some (project_at T (read_name name) (all.not_refused NoProject refl)))
+      IsSound-transfer (closed (or_empty (read_name name)) T) (IsSound-closed T sound (or_empty (read_name name)))
+      (or_empty (read_name name)) _ (ap is_some (project_at T (read_name name) (all.not_refused NoProject refl)))
   each_request (CloseCase name) accepts = IsSound-closed T sound (or_empty (read_name name))
   each_request (AnswerCase name) accepts = IsSound-closed T sound (or_empty (read_name name))
 
@@ -231,14 +280,16 @@ pub IsSound-after : (T : Tables) → IsSound T → (c : Call) → verdict_now T 
 IsSound-after T sound c accepts = each_request T sound c.at c.token c.request accepts
 
 -- so does each call, however it is answered
-pub IsSound-tables_after : (T : Tables) → IsSound T → (c : Call) (answer : Answer) → Answers (verdict_now T c) answer → IsSound (tables_after T c answer)
+pub IsSound-tables_after : (T : Tables) → IsSound T → (c : Call) (answer : Answer) → Answers (verdict_now T c) answer
+    → IsSound (tables_after T c answer)
 IsSound-tables_after T sound c Accepted answers = IsSound-after T sound c answers
 IsSound-tables_after T sound c Already answers = sound
 IsSound-tables_after T sound c (Refused refusal) answers = sound
 IsSound-tables_after T sound c (Fault fault) answers = sound
 
 -- and so do calls in a row
-pub IsSound-Runs : (T : Tables) → IsSound T → (calls : List Call) (answers : List Answer) (T' : Tables) → Runs T calls answers T' → IsSound T'
+pub IsSound-Runs : (T : Tables) → IsSound T → (calls : List Call) (answers : List Answer) (T' : Tables) → Runs T calls answers T'
+    → IsSound T'
 IsSound-Runs T sound [] [] T' run = subst IsSound (sym run) sound
 IsSound-Runs T sound [] (answer ∷ answers) T' run = absurd run
 IsSound-Runs T sound (call ∷ calls) [] T' run = absurd run

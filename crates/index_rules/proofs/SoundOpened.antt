@@ -12,7 +12,9 @@ use Rattle.index_rules.proofs.KeyLemmas.{get-put}
 
 -- who is there is the first user
 the_user : (user token u : Bytes) (x : UserRecord) → get (first_tables user token).users u ≡ Some x → u ≡ user
-the_user user token u x at = by (same u user) (same-is u user) (sym (get-put empty user (first_record token) u ∙ ap (λ o. cond (same u user) (Some (first_record token)) o) (get-empty bytes_cmp u)) ∙ at)
+the_user user token u x at = by (same u user) (same-is u user)
+    (sym (get-put empty user (first_record token) u ∙ ap (λ o. cond (same u user) (Some (first_record token)) o) (get-empty bytes_cmp u))
+    ∙ at)
   where
     by : (b : Bool) → (b ≡ true → u ≡ user) → cond b (Some (first_record token)) None ≡ Some x → u ≡ user
     by true is at = is (cc)

@@ -13,14 +13,16 @@ use Rattle.index_rules.proofs.OwnerLists.{same-is, same_pair}
 use Rattle.index_rules.proofs.KeyLemmas.{same-refl, cases_same, has-put, has-without}
 use Rattle.index_rules.proofs.PutLemmas.{other-sym}
 
-pub IsSound-owner : (T : Tables) → IsSound T → (name owner : Bytes) → is_held (get T.names name) ≡ true → IsSound (record T { owners = insert T.owners (name, owner) tt })
+pub IsSound-owner : (T : Tables) → IsSound T → (name owner : Bytes) → is_held (get T.names name) ≡ true
+    → IsSound (record T { owners = insert T.owners (name, owner) tt })
 IsSound-owner T sound name owner held = record {
   one_bearer = sound.one_bearer;
   owners = λ n user owns. elim (cases_Bool (same n name && same user owner)) [
     | inl e ↦ ap (λ q. is_held (get T.names q)) (same-is n name (and_parts _ _ e).0) ∙ held
     | inr e ↦ sound.owners n user (sym (has-put T.owners name owner n user ∙ ap (λ b. cond b true (owns_in T n user)) e) ∙ owns)
   ];
-  owned = λ n held. let one = sound.owned n held in (one.0, has-put T.owners name owner n one.0 ∙ either (same n name && same one.0 owner) (owns_in T n one.0) one.1);
+  owned = λ n held. let one = sound.owned n held in
+      (one.0, has-put T.owners name owner n one.0 ∙ either (same n name && same one.0 owner) (owns_in T n one.0) one.1);
   yanks = sound.yanks;
   cases = sound.cases;
   spelled = sound.spelled;
@@ -67,7 +69,8 @@ pub IsSound-no_owner : (T : Tables) → IsSound T → (name owner : Bytes) → o
     → IsSound (record T { owners = remove T.owners (name, owner) })
 IsSound-no_owner T sound name owner owns sole = record {
   one_bearer = sound.one_bearer;
-  owners = λ n user left. sound.owners n user (had (same n name && same user owner) (owns_in T n user) (sym (has-without T.owners name owner n user) ∙ left));
+  owners = λ n user left. sound.owners n user (had (same n name && same user owner) (owns_in T n user)
+      (sym (has-without T.owners name owner n user) ∙ left));
   owned = λ n held. elim (cases_same n name) [
     | inl e ↦
         let other = another_owner T name owner owns sole in (

@@ -43,17 +43,25 @@ use Rattle.index_rules.proofs.StepFiles.{step_of_files, step_of_bodies, bans_aft
 -- ---- the numbers of a name
 
 -- in sound tables whose files are those of a history, a name with this shape has the numbers of the history
-name_numbered : (T : Tables) → IsSound T → (h : History) → ((file : Bytes) → get T.files file ≡ file_after h file) → (n : Bytes) → IsNamed h n (get T.names n) → get T.names n ≡ name_after h n
+name_numbered : (T : Tables) → IsSound T → (h : History) → ((file : Bytes) → get T.files file ≡ file_after h file) → (n : Bytes)
+    → IsNamed h n (get T.names n) → get T.names n ≡ name_after h n
 name_numbered T sound h files n shaped = by (state_after h n) shaped
   where
-    by : (s : State) → IsShaped (get T.names n) s (shown_after h n) (quota_after h n) (last_upload_after h n) → get T.names n ≡ record_of_state s (project_after h n)
+    by : (s : State) → IsShaped (get T.names n) s (shown_after h n) (quota_after h n) (last_upload_after h n)
+        → get T.names n ≡ record_of_state s (project_after h n)
     by Free found = found
     by Prohibited found = found
     by Held held =
         let at : held_project (get T.names n) ≡ Some held.0 = ap held_project held.1 in
         let charged : held.0.charge ≡ charge_after h n = sound.charge n held.0 at ∙ charge_agrees T h files n in
         let counted : held.0.undeleted ≡ undeleted_count_after h n = sound.undeleted n held.0 at ∙ count_agrees T h files n in
-        held.1 ∙ (λ i. Some (name_record.Held (record { shown = held.2 i; quota = held.3 i; charge = charged i; undeleted = counted i; last_upload = held.4 i })))
+        held.1 ∙ (λ i. Some (name_record.Held (record {
+          shown = held.2 i;
+          quota = held.3 i;
+          charge = charged i;
+          undeleted = counted i;
+          last_upload = held.4 i;
+        })))
 
 -- ---- one call
 
@@ -61,10 +69,13 @@ module _ (T : Tables) (h : History) (sound : IsSound T) (stands : StandsFor T h)
   pub verdict_agrees : (c : Call) → verdict_now T c ≡ verdict_after h c
   verdict_agrees = agree.verdict_agrees T h sound.one_bearer stands (has_release_agrees T h stands.files) (received h)
 
-  acts : (token : Bytes) → or_empty (option_map (λ (caller : Caller). caller.user) (option_map caller_of (bearer_in T token))) ≡ or_empty (bearer_after h token)
-  acts token = ap or_empty (by (bearer_in T token) ∙ agree.who_agrees T h sound.one_bearer stands (has_release_agrees T h stands.files) (received h) token)
+  acts : (token : Bytes) → or_empty (option_map (λ (caller : Caller). caller.user) (option_map caller_of (bearer_in T token)))
+      ≡ or_empty (bearer_after h token)
+  acts token = ap or_empty (by (bearer_in T token)
+      ∙ agree.who_agrees T h sound.one_bearer stands (has_release_agrees T h stands.files) (received h) token)
     where
-      by : (found : Option (Bytes × UserRecord)) → option_map (λ (caller : Caller). caller.user) (option_map caller_of found) ≡ option_map (λ user. user.0) found
+      by : (found : Option (Bytes × UserRecord))
+          → option_map (λ (caller : Caller). caller.user) (option_map caller_of found) ≡ option_map (λ user. user.0) found
       by None = refl
       by (Some user) = refl
 
@@ -72,10 +83,12 @@ module _ (T : Tables) (h : History) (sound : IsSound T) (stands : StandsFor T h)
   pub StandsFor-after : (c : Call) → verdict_now T c ≡ Accept → StandsFor (tables_with_call T c) (with_call h c)
   StandsFor-after c accepts =
       let actor : Bytes = or_empty (bearer_after h c.token) in
-      let files : (file : Bytes) → get (tables_with_call T c).files file ≡ file_after (with_call h c) file = step_of_files T h stands.files c.at c.token actor c.request accepts in
+      let files : (file : Bytes) → get (tables_with_call T c).files file ≡ file_after (with_call h c) file =
+      step_of_files T h stands.files c.at c.token actor c.request accepts in
       record {
         users = step_of_users T h stands.users c.at c.token actor c.request accepts;
-        names = λ n. name_numbered (tables_with_call T c) (IsSound-after T sound c accepts) (with_call h c) files n (step_of_names T h stands.names c.at c.token actor c.request accepts n);
+        names = λ n. name_numbered (tables_with_call T c) (IsSound-after T sound c accepts) (with_call h c) files n
+            (step_of_names T h stands.names c.at c.token actor c.request accepts n);
         owners = step_of_owners T h stands.names stands.cases c.at c.token actor stands.owners (acts c.token) c.request accepts;
         files = files;
         bodies = step_of_bodies T h stands.files c.at c.token actor stands.bodies c.request accepts;
@@ -87,9 +100,11 @@ module _ (T : Tables) (h : History) (sound : IsSound T) (stands : StandsFor T h)
   -- who made an accepted call bears its token
   caller_there : (c : Call) → verdict_now T c ≡ Accept → bearer_after h c.token ≡ Some (or_empty (bearer_after h c.token))
   caller_there c accepts =
-      by (bearer_in T c.token) ((accepted c (facts_in T c) accepts).not_refused BadToken refl) (agree.who_agrees T h sound.one_bearer stands (has_release_agrees T h stands.files) (received h) c.token)
+      by (bearer_in T c.token) ((accepted c (facts_in T c) accepts).not_refused BadToken refl)
+      (agree.who_agrees T h sound.one_bearer stands (has_release_agrees T h stands.files) (received h) c.token)
     where
-      by : (found : Option (Bytes × UserRecord)) → is_none (option_map caller_of found) ≡ false → option_map (λ user. user.0) found ≡ bearer_after h c.token → bearer_after h c.token ≡ Some (or_empty (bearer_after h c.token))
+      by : (found : Option (Bytes × UserRecord)) → is_none (option_map caller_of found) ≡ false
+          → option_map (λ user. user.0) found ≡ bearer_after h c.token → bearer_after h c.token ≡ Some (or_empty (bearer_after h c.token))
       by None missing is = absurd (true≢false missing)
       by (Some user) missing is = sym is ∙ ap (λ o. Some (or_empty o)) is
 
@@ -125,7 +140,8 @@ legal_made (more h e) legal =
     let accepts : verdict_now (tables_of h) e.call ≡ Accept = verdict_agrees (tables_of h) h made.sound made.stands e.call ∙ legal.1 in
     record {
       sound = IsSound-after (tables_of h) made.sound e.call accepts;
-      stands = subst (λ actor. StandsFor (tables_with_call (tables_of h) e.call) (more h (record { actor = actor; call = e.call }))) (ap or_empty legal.2) (StandsFor-after (tables_of h) h made.sound made.stands e.call accepts);
+      stands = subst (λ actor. StandsFor (tables_with_call (tables_of h) e.call) (more h (record { actor = actor; call = e.call })))
+          (ap or_empty legal.2) (StandsFor-after (tables_of h) h made.sound made.stands e.call accepts);
     }
 
 -- two tables that stand for one history are equal
@@ -133,12 +149,14 @@ same_tables : (h : History) (T T' : Tables) → StandsFor T h → StandsFor T' h
 same_tables h T T' one other = λ i. record {
   users = same_map nat_list_cmp_total exact_bytes T.users T'.users (λ q. one.users q ∙ sym (other.users q)) i;
   names = same_map nat_list_cmp_total exact_bytes T.names T'.names (λ q. one.names q ∙ sym (other.names q)) i;
-  owners = same_map pair_total exact_pair T.owners T'.owners (λ q. by (get T.owners q) (get T'.owners q) (one.owners q.0 q.1 ∙ sym (other.owners q.0 q.1))) i;
+  owners = same_map pair_total exact_pair T.owners T'.owners
+      (λ q. by (get T.owners q) (get T'.owners q) (one.owners q.0 q.1 ∙ sym (other.owners q.0 q.1))) i;
   files = same_map nat_list_cmp_total exact_bytes T.files T'.files (λ q. one.files q ∙ sym (other.files q)) i;
   bodies = same_map nat_list_cmp_total exact_bytes T.bodies T'.bodies (λ q. one.bodies q ∙ sym (other.bodies q)) i;
   yanks = same_map pair_total exact_pair T.yanks T'.yanks (λ q. one.yanks q.0 q.1 ∙ sym (other.yanks q.0 q.1)) i;
   cases = same_map nat_list_cmp_total exact_bytes T.cases T'.cases (λ q. one.cases q ∙ sym (other.cases q)) i;
-  bans = same_map nat_list_cmp_total exact_bytes T.bans T'.bans (λ q. by (get T.bans q) (get T'.bans q) (one.bans q ∙ sym (other.bans q))) i;
+  bans = same_map nat_list_cmp_total exact_bytes T.bans T'.bans (λ q. by (get T.bans q) (get T'.bans q) (one.bans q ∙ sym (other.bans q)))
+      i;
 }
   where
     by : (x y : Option (Unit {0})) → is_some x ≡ is_some y → x ≡ y
@@ -149,7 +167,8 @@ same_tables h T T' one other = λ i. record {
 
 -- tables that stand for a legal history are sound
 pub sound_when_legal : (h : History) → IsLegal h → (T : Tables) → StandsFor T h → IsSound T
-sound_when_legal h legal T stands = let made = legal_made h legal in subst IsSound (same_tables h (tables_of h) T made.stands stands) made.sound
+sound_when_legal h legal T stands = let made = legal_made h legal in
+    subst IsSound (same_tables h (tables_of h) T made.stands stands) made.sound
 
 pub one_bearer_of_each : (h : History) → IsLegal h → HasOneBearerOfEach h
 one_bearer_of_each h legal u v x y bears_x bears_y same_token =
@@ -162,21 +181,30 @@ pub CarriesOn-answer : (h : History) → IsLegal h → (T : Tables) → StandsFo
     → (HasOneBearer T → Answers (verdict_now T c) answer) → (HasOneBearer T → T' ≡ tables_after T c answer) → CarriesOn h c answer T'
 CarriesOn-answer h legal T stands c answer T' answers after_is =
     let sound : IsSound T = sound_when_legal h legal T stands in
-    by answer (answers sound.one_bearer) (subst (λ v. Answers v answer) (verdict_agrees T h sound stands c) (answers sound.one_bearer)) (after_is sound.one_bearer)
+    by answer (answers sound.one_bearer) (subst (λ v. Answers v answer) (verdict_agrees T h sound stands c) (answers sound.one_bearer))
+    (after_is sound.one_bearer)
   where
-    by : (answer : Answer) → Answers (verdict_now T c) answer → Answers (verdict_after h c) answer → T' ≡ tables_after T c answer → CarriesOn h c answer T'
+    by : (answer : Answer) → Answers (verdict_now T c) answer → Answers (verdict_after h c) answer → T' ≡ tables_after T c answer
+        → CarriesOn h c answer T'
     by Accepted now verdict is =
         let sound : IsSound T = sound_when_legal h legal T stands in
-        record { verdict = verdict; legal = (legal, verdict, caller_there T h sound stands c now); stands = subst (λ x. StandsFor x (with_call h c)) (sym is) (StandsFor-after T h sound stands c now) }
+        record {
+          verdict = verdict;
+          legal = (legal, verdict, caller_there T h sound stands c now);
+          stands = subst (λ x. StandsFor x (with_call h c)) (sym is) (StandsFor-after T h sound stands c now);
+        }
     by Already now verdict is = record { verdict = verdict; legal = legal; stands = subst (λ x. StandsFor x h) (sym is) stands }
     by (Refused refusal) now verdict is = record { verdict = verdict; legal = legal; stands = subst (λ x. StandsFor x h) (sym is) stands }
     by (Fault fault) now verdict is = record { verdict = verdict; legal = legal; stands = subst (λ x. StandsFor x h) (sym is) stands }
 
-pub CarriesOnBy-Runs : (h : History) → IsLegal h → (T : Tables) → StandsFor T h → (calls : List Call) (answers : List Answer) (T' : Tables) → Runs T calls answers T' → CarriesOnAll h calls answers T'
-CarriesOnBy-Runs h legal T stands [] [] T' run = record { after = h; extends = refl; legal = legal; stands = subst (λ x. StandsFor x h) (sym run) stands }
+pub CarriesOnBy-Runs : (h : History) → IsLegal h → (T : Tables) → StandsFor T h → (calls : List Call) (answers : List Answer) (T' : Tables)
+    → Runs T calls answers T' → CarriesOnAll h calls answers T'
+CarriesOnBy-Runs h legal T stands [] [] T' run =
+    record { after = h; extends = refl; legal = legal; stands = subst (λ x. StandsFor x h) (sym run) stands }
 CarriesOnBy-Runs h legal T stands [] (answer ∷ answers) T' run = absurd run
 CarriesOnBy-Runs h legal T stands (call ∷ calls) [] T' run = absurd run
 CarriesOnBy-Runs h legal T stands (call ∷ calls) (answer ∷ answers) T' run =
-    let one : CarriesOn h call answer (tables_after T call answer) = CarriesOn-answer h legal T stands call answer (tables_after T call answer) (λ _. run.0) (λ _. refl) in
+    let one : CarriesOn h call answer (tables_after T call answer) =
+    CarriesOn-answer h legal T stands call answer (tables_after T call answer) (λ _. run.0) (λ _. refl) in
     let rest = CarriesOnBy-Runs (history_after h call answer) one.legal (tables_after T call answer) one.stands calls answers T' run.1 in
     record { after = rest.after; extends = (one.verdict, rest.extends); legal = rest.legal; stands = rest.stands }

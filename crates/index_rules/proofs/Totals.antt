@@ -1,5 +1,6 @@
 -- A sum over the entries of a map: after one entry is put or each value is changed, and if each entry weighs nothing.
-use Rattle.std.proofs.Common.{◌≡◌, ℕ, ◌+◌, ◌≤◌, Bool, true, false, cond, not, refl, sym, ap, ◌∙◌, List, [], ◌∷◌, Some, None, T, arith, sum_by, find, eqb}
+use Rattle.std.proofs.Common.{◌≡◌, ℕ, ◌+◌, ◌≤◌, Bool, true, false, cond, not, refl, sym, ap, ◌∙◌, List, [], ◌∷◌, Some, None, T, arith}
+use Rattle.std.proofs.Common.{sum_by, find, eqb}
 use Rattle.std.specs.Option.{option_map_or}
 use Rattle.std.specs.declared.cmp.Ordering.{Ordering}
 use Rattle.std.specs.declared.cmp.Ordering.TheVariants.{Less, Equal, Greater}
@@ -20,11 +21,13 @@ is_less Equal p = absurd p
 is_less Greater p = absurd p
 
 -- a key below one that is below all is none of them
-find-below : {X : Type 0} (q k : Bytes) (es : List (Bytes × X)) → bytes_cmp q k ≡ Less → T (below_all bytes_cmp k es) → fin.find bytes_cmp q es ≡ None
+find-below : {X : Type 0} (q k : Bytes) (es : List (Bytes × X)) → bytes_cmp q k ≡ Less → T (below_all bytes_cmp k es)
+    → fin.find bytes_cmp q es ≡ None
 find-below q k [] lower low = refl
 find-below q k (e ∷ es) lower low =
     let parts = both_hold _ _ low in
-    ap (λ o. cond (is_eq o) (Some e.1) (fin.find bytes_cmp q es)) (nat_list_cmp_total.trans q k e.0 lower (is_less _ parts.0)) ∙ find-below q k es lower parts.1
+    ap (λ o. cond (is_eq o) (Some e.1) (fin.find bytes_cmp q es)) (nat_list_cmp_total.trans q k e.0 lower (is_less _ parts.0))
+    ∙ find-below q k es lower parts.1
 
 module _ {X : Type 0} (weight : X → ℕ) where
   abbrev pub total_of : List (Bytes × X) → ℕ
@@ -33,20 +36,25 @@ module _ {X : Type 0} (weight : X → ℕ) where
   total_of-cons : (e : Bytes × X) (es : List (Bytes × X)) → total_of (e ∷ es) ≡ weight e.1 + total_of es
   total_of-cons e es = sum_by-cons (λ (f : Bytes × X). weight f.1) e es
 
-  total_of-put : (k : Bytes) (v : X) (es : List (Bytes × X)) → T (is_sorted bytes_cmp es) → total_of (put bytes_cmp k v es) + option_map_or weight (fin.find bytes_cmp k es) 0 ≡ total_of es + weight v
+  total_of-put : (k : Bytes) (v : X) (es : List (Bytes × X)) → T (is_sorted bytes_cmp es)
+      → total_of (put bytes_cmp k v es) + option_map_or weight (fin.find bytes_cmp k es) 0 ≡ total_of es + weight v
   total_of-put k v [] sorted = omega (arith, total_of-cons (k, v) [])
   total_of-put k v (e ∷ es) sorted =
       let parts = both_hold _ _ sorted in
-      elim (bytes_cmp k e.0) as (λ o. bytes_cmp k e.0 ≡ o → total_of (by_order o ((k, v) ∷ e ∷ es) ((e.0, v) ∷ es) (e ∷ put bytes_cmp k v es)) + option_map_or weight (cond (is_eq o) (Some e.1) (fin.find bytes_cmp k es)) 0 ≡ total_of (e ∷ es) + weight v) [
+      elim (bytes_cmp k e.0) as (λ o. bytes_cmp k e.0 ≡ o
+      → total_of (by_order o ((k, v) ∷ e ∷ es) ((e.0, v) ∷ es) (e ∷ put bytes_cmp k v es)) + option_map_or weight
+      (cond (is_eq o) (Some e.1) (fin.find bytes_cmp k es)) 0 ≡ total_of (e ∷ es) + weight v) [
         | Less ↦ λ lower.
-            let gone : option_map_or weight (fin.find bytes_cmp k es) 0 ≡ 0 = ap (λ o. option_map_or weight o 0) (find-below k e.0 es lower parts.0) in
+            let gone : option_map_or weight (fin.find bytes_cmp k es) 0 ≡ 0 =
+            ap (λ o. option_map_or weight o 0) (find-below k e.0 es lower parts.0) in
             omega (arith, total_of-cons (k, v) (e ∷ es), gone)
         | Equal ↦ λ _. omega (arith, total_of-cons (e.0, v) es, total_of-cons e es)
         | Greater ↦ λ _. omega (arith, total_of-put k v es parts.1, total_of-cons e (put bytes_cmp k v es), total_of-cons e es)
       ] refl
 
   -- an entry that is put takes the weight of the one before it
-  pub total-insert : (m : Map X) (k : Bytes) (v : X) → total_of (entries (insert m k v)) + option_map_or weight (get m k) 0 ≡ total_of (entries m) + weight v
+  pub total-insert : (m : Map X) (k : Bytes) (v : X)
+      → total_of (entries (insert m k v)) + option_map_or weight (get m k) 0 ≡ total_of (entries m) + weight v
   total-insert m k v =
       ap (λ es. total_of es + option_map_or weight (get m k) 0) (entries-insert nat_list_cmp_total m k v)
       ∙ ap (λ o. total_of (put bytes_cmp k v (entries m)) + option_map_or weight o 0) (get-entries m k)
@@ -54,22 +62,31 @@ module _ {X : Type 0} (weight : X → ℕ) where
 
   total_of-at : (k : Bytes) (v : X) (es : List (Bytes × X)) → fin.find bytes_cmp k es ≡ Some v → weight v ≤ total_of es
   total_of-at k v [] found = cc
-  total_of-at k v (e ∷ es) found = elim (eq_by_cmp bytes_cmp k e.0) as (λ b. cond b (Some e.1) (fin.find bytes_cmp k es) ≡ Some v → weight v ≤ total_of (e ∷ es)) [
-    | true ↦ λ found. let is : e.1 ≡ v = cc in omega (arith, total_of-cons e es, ap weight is)
-    | false ↦ λ found. omega (arith, total_of-cons e es, total_of-at k v es found)
-  ] found
+  total_of-at k v (e ∷ es) found = elim (eq_by_cmp bytes_cmp k e.0) as (λ b. cond b (Some e.1) (fin.find bytes_cmp k es) ≡ Some v
+      → weight v ≤ total_of (e ∷ es)) [
+        | true ↦ λ found. let is : e.1 ≡ v = cc in omega (arith, total_of-cons e es, ap weight is)
+        | false ↦ λ found. omega (arith, total_of-cons e es, total_of-at k v es found)
+      ] found
 
   -- an entry weighs no more than all
   pub total-at : (m : Map X) (k : Bytes) (v : X) → get m k ≡ Some v → weight v ≤ total_of (entries m)
   total-at m k v at = total_of-at k v (entries m) (sym (get-entries m k) ∙ at)
 
-  total_of-changed : (change : X → X) (es : List (Bytes × X)) → ((v : X) → weight (change v) ≡ weight v) → total_of (changed change es) ≡ total_of es
+  total_of-changed : (change : X → X) (es : List (Bytes × X)) → ((v : X) → weight (change v) ≡ weight v)
+      → total_of (changed change es) ≡ total_of es
   total_of-changed change [] same_weight = refl
   total_of-changed change (e ∷ es) same_weight =
-      omega (arith, total_of-cons (e.0, change e.1) (changed change es), total_of-cons e es, same_weight e.1, total_of-changed change es same_weight)
+      omega (
+        arith,
+        total_of-cons (e.0, change e.1) (changed change es),
+        total_of-cons e es,
+        same_weight e.1,
+        total_of-changed change es same_weight,
+      )
 
   -- if each value weighs what it did, so do all
-  pub total-changed : (change : X → X) (m : Map X) → ((v : X) → weight (change v) ≡ weight v) → total_of (entries (change_values change m)) ≡ total_of (entries m)
+  pub total-changed : (change : X → X) (m : Map X) → ((v : X) → weight (change v) ≡ weight v)
+      → total_of (entries (change_values change m)) ≡ total_of (entries m)
   total-changed change m same_weight = ap total_of (entries-change_values change m) ∙ total_of-changed change (entries m) same_weight
 
   weighs : Bytes × X → Bool
@@ -78,10 +95,11 @@ module _ {X : Type 0} (weight : X → ℕ) where
   total_of-none : (es : List (Bytes × X)) → find weighs es ≡ None → total_of es ≡ 0
   unfolding weighs
   total_of-none [] none = refl
-  total_of-none (e ∷ es) none = elim (eqb (weight e.1) 0) as (λ b. eqb (weight e.1) 0 ≡ b → cond (not b) (Some e) (find weighs es) ≡ None → total_of (e ∷ es) ≡ 0) [
-    | true ↦ λ is none. omega (arith, total_of-cons e es, eqb-true (weight e.1) 0 is, total_of-none es none)
-    | false ↦ λ _ none. cc
-  ] refl none
+  total_of-none (e ∷ es) none = elim (eqb (weight e.1) 0) as (λ b. eqb (weight e.1) 0 ≡ b → cond (not b) (Some e) (find weighs es) ≡ None
+      → total_of (e ∷ es) ≡ 0) [
+        | true ↦ λ is none. omega (arith, total_of-cons e es, eqb-true (weight e.1) 0 is, total_of-none es none)
+        | false ↦ λ _ none. cc
+      ] refl none
 
   -- if each entry weighs nothing, so do all
   pub total-zero : (m : Map X) → ((k : Bytes) (v : X) → get m k ≡ Some v → weight v ≡ 0) → total_of (entries m) ≡ 0

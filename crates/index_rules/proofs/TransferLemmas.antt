@@ -1,14 +1,17 @@
 -- In a legal history each transfer was ready: the case was open and unanswered, and nothing stood against the transfer.
-use Rattle.std.proofs.Common.{◌≡◌, ◌⊎◌, inl, inr, ℕ, ◌+◌, ◌≤◌, Bool, true, false, cond, not, ◌&&◌, ◌||◌, nat_lt, refl, sym, ap, ◌∙◌, subst, List, [], ◌∷◌, Option, Some, None, is_some, is_none, option_map, option_and_then, arith}
+use Rattle.std.proofs.Common.{◌≡◌, ◌⊎◌, inl, inr, ℕ, ◌+◌, ◌≤◌, Bool, true, false, cond, not, ◌&&◌, ◌||◌, nat_lt, refl, sym, ap, ◌∙◌, subst}
+use Rattle.std.proofs.Common.{List, [], ◌∷◌, Option, Some, None, is_some, is_none, option_map, option_and_then, arith}
 use Rattle.std.specs.Option.{option_or, option_map_or, IsSomeAnd, IfSome}
 use Rattle.std.proofs.lemmas.Bool.{false≢true, true≢false, ltb-false, and_parts, or_parts, not-false}
 use Rattle.index_names.specs.Project.{read_name}
 use Rattle.index_retention.specs.declared.fault.CaseFault.{CaseFault}
 use Rattle.index_retention.specs.declared.fault.CaseFault.TheVariants as case_fault
 use Rattle.index_retention.specs.Attempts.{Attempt, Tally, attempt_of, tally_with, tally_of}
-use Rattle.index_retention.specs.Transfer.{fewest_sent, six_weeks, twelve_months, too_few_attempts, too_early, recent_release, stands_against, IsReady}
+use Rattle.index_retention.specs.Transfer.{fewest_sent, six_weeks, twelve_months, too_few_attempts, too_early, recent_release}
+use Rattle.index_retention.specs.Transfer.{stands_against, IsReady}
 use Rattle.index_retention.proofs.TallyLemmas.{attempts_are_counted}
-use Rattle.index_rules.specs.declared.answer.Refusal.TheVariants.{HomePageActive, NoCase, NoProject, RecentRelease, TooEarly, TooFewAttempts}
+use Rattle.index_rules.specs.declared.answer.Refusal.TheVariants.{HomePageActive, NoCase, NoProject, RecentRelease, TooEarly}
+use Rattle.index_rules.specs.declared.answer.Refusal.TheVariants.{TooFewAttempts}
 use Rattle.index_rules.specs.declared.call.Call.{Call}
 use Rattle.index_rules.specs.declared.call.Request.{Request}
 use Rattle.index_rules.specs.declared.call.Request.TheVariants.{OpenCase, RecordAttempt, CloseCase, Transfer, Prohibit}
@@ -34,7 +37,8 @@ module _ (n : Bytes) (before : Option Case) (unanswered : Bool) (was : is_some b
   was_open true there = absurd (false≢true there)
   was_open false there = was there
 
-  open_before : (change : Case → Case) (b : Bool) (old : Option Case) → is_some (cond b (option_map change old) old) ≡ true → is_some old ≡ true
+  open_before : (change : Case → Case) (b : Bool) (old : Option Case) → is_some (cond b (option_map change old) old) ≡ true
+      → is_some old ≡ true
   open_before change b (Some case) there = refl
   open_before change true None there = there
   open_before change false None there = there
@@ -43,10 +47,13 @@ module _ (n : Bytes) (before : Option Case) (unanswered : Bool) (was : is_some b
   newly_open case true there = refl
   newly_open case false there = was there
 
-  unanswered_by : (r : Request) (actor : Bytes) (at : ℕ) → is_some (case_by r actor at n before) ≡ true → (opens_case r n || (not (is_owners_request r n) && unanswered)) ≡ true
+  unanswered_by : (r : Request) (actor : Bytes) (at : ℕ) → is_some (case_by r actor at n before) ≡ true
+      → (opens_case r n || (not (is_owners_request r n) && unanswered)) ≡ true
   unanswered_by (OpenCase name kind contact work why) actor at there =
-      newly_open (record { kind = kind; candidate = actor; contact = contact; work = work; why = why; opened = at; attempts = [] }) (is_read_as (read_name name) n) there
-  unanswered_by (RecordAttempt name means sent) actor at there = was (open_before (with_attempt (attempt_of means sent at)) (is_read_as (read_name name) n) before there)
+      newly_open (record { kind = kind; candidate = actor; contact = contact; work = work; why = why; opened = at; attempts = [] })
+      (is_read_as (read_name name) n) there
+  unanswered_by (RecordAttempt name means sent) actor at there =
+      was (open_before (with_attempt (attempt_of means sent at)) (is_read_as (read_name name) n) before there)
   unanswered_by (CloseCase name) actor at there = was_open (is_read_as (read_name name) n) there
   unanswered_by (Transfer name quiet) actor at there = was_open (is_read_as (read_name name) n) there
   unanswered_by (Prohibit name) actor at there = was_open (is_read_as (read_name name) n) there
@@ -55,7 +62,8 @@ module _ (n : Bytes) (before : Option Case) (unanswered : Bool) (was : is_some b
 -- in every history
 unanswered_open : (h : History) (n : Bytes) → is_some (case_after h n) ≡ true → is_unanswered_after h n ≡ true
 unanswered_open (begins user token) n there = absurd (false≢true there)
-unanswered_open (more h e) n there = unanswered_by n (case_after h n) (is_unanswered_after h n) (unanswered_open h n) e.call.request e.actor e.call.at there
+unanswered_open (more h e) n there = unanswered_by n (case_after h n) (is_unanswered_after h n) (unanswered_open h n)
+    e.call.request e.actor e.call.at there
 
 -- ---- a case with a sent attempt has the moment of the first
 
@@ -75,14 +83,17 @@ HasFirst-noted tally attempt has = by tally.sent tally.first attempt.sent has
 HasFirst-tally : (attempts : List Attempt) → HasFirst (tally_of attempts)
 unfolding tally_of
 HasFirst-tally [] = inl refl
-HasFirst-tally (attempt ∷ attempts) = subst HasFirst (sym (attempts_are_counted attempt attempts)) (HasFirst-noted (tally_of attempts) attempt (HasFirst-tally attempts))
+HasFirst-tally (attempt ∷ attempts) = subst HasFirst (sym (attempts_are_counted attempt attempts))
+    (HasFirst-noted (tally_of attempts) attempt (HasFirst-tally attempts))
 
 -- ---- what nothing stands against is ready
 
-waited_from : (tally : Tally) (at : ℕ) → HasFirst tally → fewest_sent ≤ tally.sent → too_early tally at ≡ false → IsSomeAnd tally.first (λ first. first + six_weeks ≤ at)
+waited_from : (tally : Tally) (at : ℕ) → HasFirst tally → fewest_sent ≤ tally.sent → too_early tally at ≡ false
+    → IsSomeAnd tally.first (λ first. first + six_weeks ≤ at)
 waited_from tally at has sent early = by tally.first has early
   where
-    by : (first : Option ℕ) → (tally.sent ≡ 0) ⊎ (is_some first ≡ true) → option_map_or (λ first. nat_lt at (first + six_weeks)) first false ≡ false → IsSomeAnd first (λ first. first + six_weeks ≤ at)
+    by : (first : Option ℕ) → (tally.sent ≡ 0) ⊎ (is_some first ≡ true)
+        → option_map_or (λ first. nat_lt at (first + six_weeks)) first false ≡ false → IsSomeAnd first (λ first. first + six_weeks ≤ at)
     by (Some first) has early = ltb-false at (first + six_weeks) early
     by None (inl none) early = absurd (omega (arith, none, sent))
     by None (inr some) early = absurd (false≢true some)
@@ -92,7 +103,8 @@ no_release_from None at recent = tt
 no_release_from (Some uploaded) at recent = ltb-false at (uploaded + twelve_months) recent
 
 ready_from : (tally : Tally) (last : Option ℕ) (quiet : Bool) (at : ℕ) → HasFirst tally
-    → too_few_attempts tally ≡ false → too_early tally at ≡ false → recent_release last at ≡ false → not quiet ≡ false → IsReady tally last quiet at
+    → too_few_attempts tally ≡ false → too_early tally at ≡ false → recent_release last at ≡ false → not quiet ≡ false
+    → IsReady tally last quiet at
 ready_from tally last quiet at has few early recent active =
     let parts = or_parts _ _ few in
     let means = and_parts _ _ (not-false _ parts.1) in
@@ -124,31 +136,44 @@ ready_then : (h : History) (actor token : Bytes) (at : ℕ) (name : Bytes) (quie
 ready_then h actor token at name quiet n reads accepts =
     let c : Call = record { at = at; token = token; request = Transfer name quiet } in
     let all = accepted c (facts_after h c) accepts in
-    let there = case_there (case_after h n) (sym (ap (λ read. is_none (option_and_then (case_record_after h) read)) reads) ∙ all.not_refused NoCase refl) in
-    let held : state_after h n ≡ Held = state_there h n (state_after h n) (sym (ap (λ read. not (is_held (option_and_then (name_after h) read))) reads) ∙ all.not_refused NoProject refl) in
+    let there = case_there (case_after h n) (sym (ap (λ read. is_none (option_and_then (case_record_after h) read)) reads)
+    ∙ all.not_refused NoCase refl) in
+    let held : state_after h n ≡ Held = state_there h n (state_after h n)
+    (sym (ap (λ read. not (is_held (option_and_then (name_after h) read))) reads) ∙ all.not_refused NoProject refl) in
     let against : Option Bytes → CaseFault → Bool = λ read fault.
-    option_map_or (λ case. option_map_or (λ project. stands_against case.state project.last_upload quiet at fault) (held_project (option_and_then (name_after h) read)) false) (option_and_then (case_record_after h) read) false in
-    let nothing : (fault : CaseFault) → against (read_name name) fault ≡ false → stands_against (tally_of there.0.attempts) (last_upload_after h n) quiet at fault ≡ false = λ fault none.
+    option_map_or (λ case. option_map_or (λ project. stands_against case.state project.last_upload quiet at fault)
+    (held_project (option_and_then (name_after h) read)) false) (option_and_then (case_record_after h) read) false in
+    let nothing : (fault : CaseFault) → against (read_name name) fault ≡ false
+    → stands_against (tally_of there.0.attempts) (last_upload_after h n) quiet at fault ≡ false = λ fault none.
     sym ((λ i. against (reads i) fault)
-    ∙ (λ i. option_map_or (λ case. option_map_or (λ project. stands_against case.state project.last_upload quiet at fault) (held_project (record_of_state (held i) (project_after h n))) false) (option_map record_of_case (there.1 i)) false))
+    ∙ (λ i. option_map_or (λ case. option_map_or (λ project. stands_against case.state project.last_upload quiet at fault)
+    (held_project (record_of_state (held i) (project_after h n))) false) (option_map record_of_case (there.1 i)) false))
     ∙ none in
     record {
       case = there.0;
       is_open = there.1;
       ready = ready_from (tally_of there.0.attempts) (last_upload_after h n) quiet at (HasFirst-tally there.0.attempts)
-          (nothing case_fault.TooFewAttempts (all.not_refused TooFewAttempts refl)) (nothing case_fault.TooEarly (all.not_refused TooEarly refl)) (nothing case_fault.RecentRelease (all.not_refused RecentRelease refl)) (nothing case_fault.HomePageActive (all.not_refused HomePageActive refl));
+          (nothing case_fault.TooFewAttempts (all.not_refused TooFewAttempts refl))
+          (nothing case_fault.TooEarly (all.not_refused TooEarly refl))
+          (nothing case_fault.RecentRelease (all.not_refused RecentRelease refl))
+          (nothing case_fault.HomePageActive (all.not_refused HomePageActive refl));
       unanswered = unanswered_open h n (ap is_some there.1);
-      owners = λ u. (λ i. is_held_now (held i) && cond (is_read_as (reads i) n) (is_read_as (option_map (λ case. case.candidate) (there.1 i)) u) (is_given_after h n u))
+      owners = λ u. (λ i. is_held_now (held i)
+          && cond (is_read_as (reads i) n) (is_read_as (option_map (λ case. case.candidate) (there.1 i)) u) (is_given_after h n u))
           ∙ ap (λ b. cond b (same u there.0.candidate) (is_given_after h n u)) (same-refl n);
       quota = refl;
       yanks = λ r. refl;
     }
 
-transfer_was_ready : (r : Request) (h : History) (actor token : Bytes) (at : ℕ) → verdict_after h (record { at = at; token = token; request = r }) ≡ Accept
+transfer_was_ready : (r : Request) (h : History) (actor token : Bytes) (at : ℕ)
+    → verdict_after h (record { at = at; token = token; request = r }) ≡ Accept
     → TransferWasReady r h (record { actor = actor; call = record { at = at; token = token; request = r } })
 transfer_was_ready (Transfer name quiet) h actor token at accepts = λ n reads. ready_then h actor token at name quiet n reads accepts
 transfer_was_ready r h actor token at accepts = tt
 
 pub transfers_were_ready : (h : History) → IsLegal h → TransfersWereReady h
 transfers_were_ready (begins user token) legal = tt
-transfers_were_ready (more h e) legal = (transfers_were_ready h legal.0, transfer_was_ready e.call.request h e.actor e.call.token e.call.at legal.1)
+transfers_were_ready (more h e) legal = (
+  transfers_were_ready h legal.0,
+  transfer_was_ready e.call.request h e.actor e.call.token e.call.at legal.1,
+)

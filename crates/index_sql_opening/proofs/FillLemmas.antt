@@ -20,10 +20,18 @@ no_meta made st = st.empty.0
 pub no_rows : (made : State) → IsStage 9 made → AreRecords made.now
 no_rows made st =
     subst (λ (s : Schema). AreRecordsOf s.tables made.now.trees) (sym st.schema)
-    (all_weaker (λ (t : Table). made.now.trees t.tree ≡ []) (λ (t : Table). AreRecordsIn made.now.trees t.tree) (λ t none. subst (AllByRecursion (IsRecordIn t.tree)) (sym none) tt) (stage 9).tables st.empty)
+    (all_weaker (λ (t : Table). made.now.trees t.tree ≡ []) (λ (t : Table). AreRecordsIn made.now.trees t.tree)
+    (λ t none. subst (AllByRecursion (IsRecordIn t.tree)) (sym none) tt) (stage 9).tables st.empty)
 
 -- so they are an index, with no row of meta
-pub made_all : (first made : State) → made.committed ≡ first.committed → IsStage 9 made → MakesInTransaction (λ _. no_tables) (λ _. []) first made
+pub made_all : (first made : State) → made.committed ≡ first.committed → IsStage 9 made
+    → MakesInTransaction (λ _. no_tables) (λ _. []) first made
 made_all first made same st =
     let it = staged_index made st in
-    record { ready = record { is_open = st.is_open; inside = st.inside; index = it.0 }; tables = it.1; committed = same; meta = no_meta made st; records = λ _. no_rows made st }
+    record {
+      ready = record { is_open = st.is_open; inside = st.inside; index = it.0 };
+      tables = it.1;
+      committed = same;
+      meta = no_meta made st;
+      records = λ _. no_rows made st;
+    }

@@ -1,5 +1,6 @@
 -- Why the query of the version fails: under a schema of ours it is refused for no reason of its own.
-use Rattle.std.proofs.Common.{◌≡◌, ◌⊎◌, ◌≤◌, inl, inr, ◌∙◌, ℕ, pos, true, false, true≢false, List, [], ◌∷◌, codes, length, Option, None, Some, Result, Ok, Err, IsSome, IsTrue, refl, sym, ap, subst, arith}
+use Rattle.std.proofs.Common.{◌≡◌, ◌⊎◌, ◌≤◌, inl, inr, ◌∙◌, ℕ, pos, true, false, true≢false, List, [], ◌∷◌, codes, length, Option, None}
+use Rattle.std.proofs.Common.{Some, Result, Ok, Err, IsSome, IsTrue, refl, sym, ap, subst, arith}
 use Rattle.std.proofs.lemmas.Bool.{cases_Bool}
 use Rattle.sqlite_tied.specs.Compute.{everything}
 use Rattle.sqlite_value.specs.declared.keys.Collation.TheVariants.{Binary}
@@ -37,17 +38,21 @@ project = col 1 3 ∷ []
 
 -- whatever the rows are under this schema, it is refused only if its steps are limited
 abbrev IsReadable : Schema → Command → Type 0
-IsReadable schema command = (db : Database) → db.schema ≡ schema → (limit : Option ℕ) (e : Error) → RefusesToRead limit command db [] e → IsSome limit
+IsReadable schema command = (db : Database) → db.schema ≡ schema → (limit : Option ℕ) (e : Error) → RefusesToRead limit command db [] e
+    → IsSome limit
 
 abbrev IsSureAs : Schema → Result Compiled CompileError → Type 0
-IsSureAs schema (Ok c) = (length select_version_text ≤ c.tail) × (0 ≡ length c.names) × (c.formats ≡ []) × (c.returning ≡ None) × IsReadable schema c.command
+IsSureAs schema (Ok c) = (length select_version_text ≤ c.tail) × (0 ≡ length c.names) × (c.formats ≡ []) × (c.returning ≡ None)
+    × IsReadable schema c.command
 IsSureAs schema (Err e) = ⊥
 
 abbrev IsSure : Schema → Type 0
 IsSure schema = IsSureAs schema (understood schema select_version_text) × (reads_listing schema select_version_text ≡ false)
 
-readable : (schema : Schema) → accepts_program schema [] (from_one 0 tests project []) [] ≡ true → IsReadable schema (Select (plan (from_one 0 tests project [])) (codes "version" ∷ []))
-readable schema accepted db is limit e (inl wrong) = absurd (true≢false (sym accepted ∙ subst (λ s. accepts_program s [] (from_one 0 tests project []) [] ≡ false) is wrong.1))
+readable : (schema : Schema) → accepts_program schema [] (from_one 0 tests project []) [] ≡ true
+    → IsReadable schema (Select (plan (from_one 0 tests project [])) (codes "version" ∷ []))
+readable schema accepted db is limit e (inl wrong) =
+    absurd (true≢false (sym accepted ∙ subst (λ s. accepts_program s [] (from_one 0 tests project []) [] ≡ false) is wrong.1))
 readable schema accepted db is limit e (inr (inl (_, inl none))) = absurd none
 readable schema accepted db is limit e (inr (inl (_, inr none))) = absurd none.4
 readable schema accepted db is limit e (inr (inr stopped)) = stopped.1
@@ -70,7 +75,8 @@ module _ (old new : State) (e : Error) where
 
     fails_for : FailsToQuery select_version_text [] old new e → FailsFor
     unfolding FailsToQuery IsNotRun
-    fails_for (inl (inl (inl none, _))) = absurd (subst (IsSureAs schema) (ap (λ s. understood s select_version_text) (sym has) ∙ none.1) it.0)
+    fails_for (inl (inl (inl none, _))) = absurd
+        (subst (IsSureAs schema) (ap (λ s. understood s select_version_text) (sym has) ∙ none.1) it.0)
     fails_for (inl (inl (inr (c, is, inl more), _))) = absurd (more.0 (sure_of c is).0)
     fails_for (inl (inl (inr (c, is, inr (inl given)), _))) = absurd (given.0 (sure_of c is).1)
     fails_for (inl (inl (inr (c, is, inr (inr clock)), _))) = absurd (clock.0 (sure_of c is).2)
@@ -80,9 +86,11 @@ module _ (old new : State) (e : Error) where
         known : IsSureAs schema (Ok h.0)
         known = sure_of h.0 h.1.is
 
-        by_returning : (what : Option Returning) → what ≡ None → FailsToShow old new select_version_text h.0 (timed [] h.0.formats h.1.now) e what → FailsFor
+        by_returning : (what : Option Returning) → what ≡ None
+            → FailsToShow old new select_version_text h.0 (timed [] h.0.formats h.1.now) e what → FailsFor
         by_returning None _ shown =
-            let same : shown.0 ≡ old.now = subst (λ b. IsSourceOf b old.now shown.0) (ap (λ s. reads_listing s select_version_text) has ∙ it.1) shown.1 in
+            let same : shown.0 ≡ old.now = subst (λ b. IsSourceOf b old.now shown.0)
+            (ap (λ s. reads_listing s select_version_text) has ∙ it.1) shown.1 in
             let refuses : RefusesToRead old.step_limit h.0.command shown.0 [] e = rw known.2 at shown.2 in
             inr (known.4 shown.0 (ap (λ (d : Database). d.schema) same ∙ has) old.step_limit e refuses)
         by_returning (Some what) some shown = absurd (let f = some in cc)
@@ -104,7 +112,8 @@ module _ (old new : State) (e : Error) where
   known_reason (inr h) fails is = reason_for is (fails_for first_version_schema h.schema sure_first fails)
 
   -- so it fails with the store
-  pub reasoned : (IsTrue old.is_open → IsAnyVersion old.now) → FailsToQuery select_version_text [] old new e → fault_by e ≡ fault.Store → HasReason old new
+  pub reasoned : (IsTrue old.is_open → IsAnyVersion old.now) → FailsToQuery select_version_text [] old new e → fault_by e ≡ fault.Store
+      → HasReason old new
   reasoned known fails is = elim (cases_Bool old.is_open) [
     | inl opened ↦ known_reason (known opened) fails is
     | inr shut ↦ inr (inl shut)

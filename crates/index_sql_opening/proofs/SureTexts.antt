@@ -6,7 +6,8 @@ use Rattle.sqlite.specs.Listing.{understood}
 use Rattle.index_sql_schema.specs.Schema.{index_schema}
 use Rattle.index_sql_schema.specs.CreateSteps.{all_texts, stage}
 use Rattle.index_sql_schema.specs.StatementTexts.{put_version_text}
-use Rattle.index_sql_schema.specs.TableTexts.{meta_text, users_text, names_text, owners_text, files_text, blobs_text, yanks_text, cases_text, bans_text}
+use Rattle.index_sql_schema.specs.TableTexts.{meta_text, users_text, names_text, owners_text, files_text, blobs_text, yanks_text}
+use Rattle.index_sql_schema.specs.TableTexts.{cases_text, bans_text}
 use Rattle.index_sql_writes.proofs.AskLemmas.{IsWrite}
 
 meta_sure : IsWrite (stage 0) meta_text 0

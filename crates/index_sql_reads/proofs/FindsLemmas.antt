@@ -1,5 +1,6 @@
 -- What one look-up finds, and several one after another.
-use Rattle.std.proofs.Common.{◌≡◌, ℕ, true, false, List, Option, Some, None, option_map, is_some, Result, Ok, Err, IfOk, IfErr, IsOk, OnOk, IsErrAnd, IsOkUnless, refl, sym, ap, subst, ◌∙◌}
+use Rattle.std.proofs.Common.{◌≡◌, ℕ, true, false, List, Option, Some, None, option_map, is_some, Result, Ok, Err, IfOk, IfErr, IsOk, OnOk}
+use Rattle.std.proofs.Common.{IsErrAnd, IsOkUnless, refl, sym, ap, subst, ◌∙◌}
 use Rattle.std.specs.List.{AllByRecursion}
 use Rattle.sqlite_trees.specs.declared.store.Store.{Ghosts}
 use Rattle.sqlite_value.specs.Order.{Row}
@@ -39,7 +40,8 @@ never_fails (Ok a) P h = tt
 never_fails (Err why) P h = absurd (let e = h in cc)
 
 -- at the exit of a `?`: the reason is that of the call
-pub at_exit : {A : Type 0} (r : Result A Fault) (why : Fault) (P : Type 0) → IsErrAnd r (λ fault. fault ≡ why) → (why ≡ Store → P) → IfErr r (λ fault. fault ≡ Store → P)
+pub at_exit : {A : Type 0} (r : Result A Fault) (why : Fault) (P : Type 0) → IsErrAnd r (λ fault. fault ≡ why) → (why ≡ Store → P)
+    → IfErr r (λ fault. fault ≡ Store → P)
 at_exit (Ok a) why P is reason = tt
 at_exit (Err fault) why P is reason = λ store. reason (sym is ∙ store)
 
@@ -60,44 +62,60 @@ ok_weaker (Err e) P Q f h = h
 
 module _ {S : Type 0} (g : Ghosts S) where
   -- what is found after looks is so of the tables before them
-  pub seen_before : (a b : Held S) (P : Tables → Type 0) → QueriesOnly g a b true → HasCleanDisk (state g b) → P (tables_of g b) → P (tables_of g a)
+  pub seen_before : (a b : Held S) (P : Tables → Type 0) → QueriesOnly g a b true → HasCleanDisk (state g b) → P (tables_of g b)
+      → P (tables_of g a)
   seen_before a b P it clean = subst P (ap (λ (db : Database). tables_in db.trees) (it.same refl clean))
 
   -- ---- several
 
   -- both are found
-  pub finds_then : {A B : Type 0} {a b c : Held S} {x : A} {y : B} {Has : Tables → A → Type 0} {Had : Tables → B → Type 0} → FindsInTables g a b (Ok x) Has → FindsInTables g b c (Ok y) Had
+  pub finds_then : {A B : Type 0} {a b c : Held S} {x : A} {y : B} {Has : Tables → A → Type 0} {Had : Tables → B → Type 0}
+      → FindsInTables g a b (Ok x) Has → FindsInTables g b c (Ok y) Had
       → FindsInTables {A = A × B} g a c (Ok (x, y)) (λ T it. Has T it.0 × Had T it.1)
   finds_then {a = a} {b = b} {c = c} {y = y} {Had = Had} first second = record {
-    found = λ clean. (first.found (second.looks.was_clean clean), seen_before a b (λ T. Had T y) first.looks (second.looks.was_clean clean) (second.found clean));
+    found = λ clean. (
+      first.found (second.looks.was_clean clean),
+      seen_before a b (λ T. Had T y) first.looks (second.looks.was_clean clean) (second.found clean),
+    );
     looks = looks_then g a b c true first.looks second.looks;
     reason = λ clean records. tt;
   }
 
   -- what was found is another value
-  pub finds_as : {A B : Type 0} {a b : Held S} {x : A} {y : B} {Has : Tables → A → Type 0} (As : Tables → B → Type 0) → FindsInTables g a b (Ok x) Has → ((T : Tables) → Has T x → As T y) → FindsInTables g a b (Ok y) As
+  pub finds_as : {A B : Type 0} {a b : Held S} {x : A} {y : B} {Has : Tables → A → Type 0} (As : Tables → B → Type 0)
+      → FindsInTables g a b (Ok x) Has → ((T : Tables) → Has T x → As T y) → FindsInTables g a b (Ok y) As
   finds_as As it so = record { found = λ clean. so _ (it.found clean); looks = it.looks; reason = λ clean records. tt }
 
   -- or as something weaker
-  pub finds_weaker : {A : Type 0} {a b : Held S} {r : Result A Fault} {Has As : Tables → A → Type 0} → FindsInTables g a b r Has → ((T : Tables) (x : A) → Has T x → As T x) → FindsInTables g a b r As
-  finds_weaker {a = a} {r = r} {Has = Has} {As = As} it so = record { found = λ clean. ok_weaker r (Has (tables_of g a)) (As (tables_of g a)) (so _) (it.found clean); looks = it.looks; reason = it.reason }
+  pub finds_weaker : {A : Type 0} {a b : Held S} {r : Result A Fault} {Has As : Tables → A → Type 0} → FindsInTables g a b r Has
+      → ((T : Tables) (x : A) → Has T x → As T x) → FindsInTables g a b r As
+  finds_weaker {a = a} {r = r} {Has = Has} {As = As} it so =
+      record {
+        found = λ clean. ok_weaker r (Has (tables_of g a)) (As (tables_of g a)) (so _) (it.found clean);
+        looks = it.looks;
+        reason = it.reason;
+      }
 
   -- at the exit of a `?`, behind what was found
-  pub fails_then : {A B C : Type 0} {a b c : Held S} {x : A} {why : Fault} {r : Result C Fault} {Has : Tables → A → Type 0} {Had : Tables → B → Type 0} {As : Tables → C → Type 0}
+  pub fails_then : {A B C : Type 0} {a b c : Held S} {x : A} {why : Fault} {r : Result C Fault} {Has : Tables → A → Type 0} {Had : Tables
+      → B → Type 0} {As : Tables → C → Type 0}
       → FindsInTables g a b (Ok x) Has → FindsInTables g b c (Err why) Had → IsErrAnd r (λ fault. fault ≡ why) → FindsInTables g a c r As
   fails_then {r = Ok z} first second is = absurd is
   fails_then {a = a} {b = b} {c = c} {why = why} {r = Err fault} first second is = record {
     found = λ clean. tt;
     looks = looks_then g a b c false first.looks second.looks;
-    reason = λ clean records store. reason_after g a b c (why ≡ Store) first.looks second.looks.was_clean second.reason clean records (sym is ∙ store);
+    reason = λ clean records store. reason_after g a b c (why ≡ Store) first.looks second.looks.was_clean second.reason clean records
+        (sym is ∙ store);
   }
 
   -- ---- one
 
   module _ (sql : List ℕ) (cells params : Row) (same : params ≡ cells) where
     -- a query failed
-    pub fails_query : {A : Type 0} {old new : Held S} {why : Fault} {r : Result A Fault} {Has : Tables → A → Type 0} → IsSure sql cells → QueriesOnly g old new false
-        → (IsSure sql params → HasCleanDisk (state g new) → why ≡ Store → HasReason (state g old) (state g new)) → IsErrAnd r (λ fault. fault ≡ why) → FindsInTables g old new r Has
+    pub fails_query : {A : Type 0} {old new : Held S} {why : Fault} {r : Result A Fault} {Has : Tables → A → Type 0} → IsSure sql cells
+        → QueriesOnly g old new false
+        → (IsSure sql params → HasCleanDisk (state g new) → why ≡ Store → HasReason (state g old) (state g new))
+        → IsErrAnd r (λ fault. fault ≡ why) → FindsInTables g old new r Has
     fails_query {r = Ok x} sure looks reason is = absurd is
     fails_query {r = Err fault} sure looks reason is = record {
       found = λ clean. tt;
@@ -106,36 +124,45 @@ module _ {S : Type 0} (g : Ghosts S) where
     }
 
     -- its rows are read as what the tables have
-    module _ {A B : Type 0} (value : A → B) (read : List Row → B) (Has : Tables → B → Type 0) (selects : (old new : State) (rows : List Row) → IsIndex old.now → Shown sql cells old new rows → Has (tables_in old.now.trees) (read rows))
-        (old new : Held S) (rows slice : List Row) (is : slice ≡ rows) (looks : QueriesOnly g old new true) (index : HasCleanDisk (state g new) → IsIndex (state g old).now)
+    module _ {A B : Type 0} (value : A → B) (read : List Row → B) (Has : Tables → B → Type 0) (selects : (old new : State) (rows : List Row)
+        → IsIndex old.now → Shown sql cells old new rows → Has (tables_in old.now.trees) (read rows))
+        (old new : Held S) (rows slice : List Row) (is : slice ≡ rows) (looks : QueriesOnly g old new true)
+        (index : HasCleanDisk (state g new) → IsIndex (state g old).now)
         (shown : HasCleanDisk (state g new) → Shown sql params (state g old) (state g new) rows) where
       as_shown : HasCleanDisk (state g new) → Shown sql cells (state g old) (state g new) rows
       as_shown clean = subst (λ ps. Shown sql ps (state g old) (state g new) rows) same (shown clean)
 
       reads : (x : A) → value x ≡ read slice → HasCleanDisk (state g new) → Has (tables_of g old) (value x)
-      reads x told clean = subst (Has (tables_of g old)) (sym (told ∙ ap read is)) (selects (state g old) (state g new) rows (index clean) (as_shown clean))
+      reads x told clean = subst (Has (tables_of g old)) (sym (told ∙ ap read is))
+          (selects (state g old) (state g new) rows (index clean) (as_shown clean))
 
-      all : (IsRow : Row → Type 0) → ((old new : State) (rows : List Row) → IsIndex old.now → Shown sql cells old new rows → AreRecordsOf index_schema.tables old.now.trees → AllByRecursion IsRow rows)
+      all : (IsRow : Row → Type 0) → ((old new : State) (rows : List Row) → IsIndex old.now → Shown sql cells old new rows
+          → AreRecordsOf index_schema.tables old.now.trees → AllByRecursion IsRow rows)
           → HasCleanDisk (state g new) → AreRecords (state g old).now → AllByRecursion IsRow slice
       all IsRow are clean records =
-          subst (AllByRecursion IsRow) (sym is) (are (state g old) (state g new) rows (index clean) (as_shown clean) (known_records (state g old).now (index clean) records))
+          subst (AllByRecursion IsRow) (sym is)
+          (are (state g old) (state g new) rows (index clean) (as_shown clean) (known_records (state g old).now (index clean) records))
 
       pub finds_told : (x : A) → value x ≡ read slice → FindsInTables g old new (Ok x) (λ T it. Has T (value it))
       finds_told x told = record { found = reads x told; looks = looks; reason = λ clean records. tt }
 
       -- or not, only because memory ran out if all are those of records
       pub finds_read : (r : Result A Fault) (IsRow : Row → Type 0)
-          → ((old new : State) (rows : List Row) → IsIndex old.now → Shown sql cells old new rows → AreRecordsOf index_schema.tables old.now.trees → AllByRecursion IsRow rows)
-          → IfOk r (λ it. value it ≡ read slice) → (AllByRecursion IsRow slice → IsOkUnless r OutOfMemory) → FindsInTables g old new r (λ T it. Has T (value it))
+          → ((old new : State) (rows : List Row) → IsIndex old.now → Shown sql cells old new rows
+          → AreRecordsOf index_schema.tables old.now.trees → AllByRecursion IsRow rows)
+          → IfOk r (λ it. value it ≡ read slice) → (AllByRecursion IsRow slice → IsOkUnless r OutOfMemory)
+          → FindsInTables g old new r (λ T it. Has T (value it))
       finds_read r IsRow are told complete = record {
-        found = λ clean. ok_weaker r (λ it. value it ≡ read slice) (λ it. Has (tables_of g old) (value it)) (λ it told. reads it told clean) told;
+        found = λ clean. ok_weaker r (λ it. value it ≡ read slice) (λ it. Has (tables_of g old) (value it)) (λ it told. reads it told clean)
+            told;
         looks = looks_failed g old new _ looks;
         reason = λ clean records. never_store r _ (complete (all IsRow are clean records));
       }
 
       -- if they are not all read, memory ran out
       pub fails_read : {C : Type 0} {why : Fault} {r : Result C Fault} {As : Tables → C → Type 0} (IsRow : Row → Type 0)
-          → ((old new : State) (rows : List Row) → IsIndex old.now → Shown sql cells old new rows → AreRecordsOf index_schema.tables old.now.trees → AllByRecursion IsRow rows)
+          → ((old new : State) (rows : List Row) → IsIndex old.now → Shown sql cells old new rows
+          → AreRecordsOf index_schema.tables old.now.trees → AllByRecursion IsRow rows)
           → (AllByRecursion IsRow slice → why ≡ OutOfMemory) → IsErrAnd r (λ fault. fault ≡ why) → FindsInTables g old new r As
       fails_read {r = Ok x} IsRow are complete is = absurd is
       fails_read {why = why} {r = Err fault} IsRow are complete is = record {

@@ -10,7 +10,8 @@ use Rattle.index_rules.specs.declared.records.FileRecord.{FileRecord}
 use Rattle.index_rules.proofs.EntryLemmas.{get-missed}
 
 -- the release has the file, if that is undeleted
-pub release_is_there : (T : Tables) (name release file : Bytes) (known : FileRecord) → get T.files file ≡ Some known → is_undeleted_of_release name release known ≡ true → has_release_in T name release ≡ true
+pub release_is_there : (T : Tables) (name release file : Bytes) (known : FileRecord) → get T.files file ≡ Some known
+    → is_undeleted_of_release name release known ≡ true → has_release_in T name release ≡ true
 release_is_there T name release file known at is =
     let test : Bytes × FileRecord → Bool = λ it. is_undeleted_of_release name release it.1 in
     any_is_found test (entries T.files) ∙ (elim (find test (entries T.files)) as (λ o. find test (entries T.files) ≡ o → is_some o ≡ true) [

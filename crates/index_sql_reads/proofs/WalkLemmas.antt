@@ -26,11 +26,13 @@ module _ {R : Type 0} (P : R → Type 0) where
 
 module _ {K R : Type 0} (takes stops : K → R → K → Type 0) where
   -- rows that were taken are a front of what a fault ends
-  pub faulted : (f : Fault) (rows : List R) (a b : K) → Took takes rows a b → Walks {A = Unit {0}} takes stops rows a b (Err (walk_end_of f))
+  pub faulted : (f : Fault) (rows : List R) (a b : K) → Took takes rows a b
+      → Walks {A = Unit {0}} takes stops rows a b (Err (walk_end_of f))
   faulted fault.OutOfMemory rows a b took = (rows, [], sym (append-nil rows), took)
   faulted fault.Store rows a b took = (rows, [], sym (append-nil rows), took)
 
-  pub faulted_as : (f : Fault) (end : WalkEnd) → end ≡ walk_end_of f → (rows : List R) (a b : K) → Took takes rows a b → Walks {A = Unit {0}} takes stops rows a b (Err end)
+  pub faulted_as : (f : Fault) (end : WalkEnd) → end ≡ walk_end_of f → (rows : List R) (a b : K) → Took takes rows a b
+      → Walks {A = Unit {0}} takes stops rows a b (Err end)
   faulted_as f end is rows a b took = subst (λ e. Walks {A = Unit {0}} takes stops rows a b (Err e)) (sym is) (faulted f rows a b took)
 
   -- a row that is not taken ends it
@@ -46,11 +48,13 @@ module _ {K X R : Type 0} (takes stops : K → R → K → Type 0) (read : X →
   read_split : (xs ys zs : List X) → xs ≡ ys ++ zs → map read xs ≡ map read ys ++ map read zs
   read_split xs ys zs split = ap (map read) split ∙ map-append read ys zs
 
-  read_front : (rows : List X) (a b : K) → TookFront (λ before row after. takes before (read row) after) rows a b → TookFront takes (map read rows) a b
+  read_front : (rows : List X) (a b : K) → TookFront (λ before row after. takes before (read row) after) rows a b
+      → TookFront takes (map read rows) a b
   read_front rows a b it = (map read it.0, map read it.1, read_split rows it.0 it.1 it.2, read_took it.0 a b it.3)
 
   pub read_walks : (rows : List X) (a b : K) (result : Result (Unit {0}) WalkEnd)
-      → Walks (λ before row after. takes before (read row) after) (λ before row after. stops before (read row) after) rows a b result → Walks takes stops (map read rows) a b result
+      → Walks (λ before row after. takes before (read row) after) (λ before row after. stops before (read row) after) rows a b result
+      → Walks takes stops (map read rows) a b result
   read_walks rows a b (Ok done) it = read_took rows a b it
   read_walks rows a b (Err Stopped) it = (
     map read it.0,

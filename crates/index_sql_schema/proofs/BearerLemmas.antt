@@ -33,7 +33,9 @@ either_way R (x ∷ xs) a b up (inr p) (inr q) = either_way R xs a b up.1 p q
 
 agree_tokens : (a b : Row) → IsBlob 3 a → IsBlob 3 b → bytes (column a 3) ≡ bytes (column b 3) → agree plain (3 ∷ []) b (3 ∷ []) a ≡ true
 unfolding first_key
-agree_tokens a b p q same = rw (p, q, same) (last_term (at_blobs false Eq (bytes (column b 3)) (bytes (column b 3)) ∙ is_eq-slice_cmp (bytes (column b 3)) (bytes (column b 3)) ∙ same-refl (bytes (column b 3))))
+agree_tokens a b p q same = rw (p, q, same) (last_term
+    (at_blobs false Eq (bytes (column b 3)) (bytes (column b 3)) ∙ is_eq-slice_cmp (bytes (column b 3)) (bytes (column b 3))
+    ∙ same-refl (bytes (column b 3))))
 
 pub one_bearer : (db : Database) → IsIndex db → HasOneBearer (tables_in db.trees)
 one_bearer db h u v x y at_u at_v same =
@@ -42,7 +44,8 @@ one_bearer db h u v x y at_u at_v same =
     let s = row_at_key nat_list_cmp_total exact_bytes text_key user_in 1 users_keyed.apart db v y at_v in
     let at_r = has_all (IsBlob 3) (db.trees 1) r.0 tokens r.1 in
     let at_s = has_all (IsBlob 3) (db.trees 1) s.0 tokens s.1 in
-    let token : bytes (column r.0 3) ≡ bytes (column s.0 3) = ap (λ (it : UserRecord). it.token) r.3 ∙ same ∙ sym (ap (λ (it : UserRecord). it.token) s.3) in
+    let token : bytes (column r.0 3) ≡ bytes (column s.0 3) =
+    ap (λ (it : UserRecord). it.token) r.3 ∙ same ∙ sym (ap (λ (it : UserRecord). it.token) s.3) in
     let key_r : text_key r.0 ≡ u = (bytes_eq-Decides (text_key r.0) u).0 (is_key u (text_key r.0) ∙ r.2) in
     let key_s : text_key s.0 ≡ v = (bytes_eq-Decides (text_key s.0) v).0 (is_key v (text_key s.0) ∙ s.2) in
     elim (either_way _ (db.trees 1) r.0 s.0 (apart_by 1 (users_at 1) refl db h 1 _ refl refl) r.1 s.1) [

@@ -14,8 +14,10 @@ use Rattle.sqlite.specs.Listing.{understood}
 use Rattle.sqlite.specs.State.{State, Executes, ExecutesInside, Writes}
 use Rattle.sqlite.proofs.Callers.{IsPlain, command_of, statement_of, runs_as}
 use Rattle.sqlite_keyed.proofs.ListLemmas.{all-append, all_both, all_weaker}
-use Rattle.index_sql_schema.specs.TableTexts.{meta_text, users_text, names_text, owners_text, files_text, blobs_text, yanks_text, cases_text, bans_text}
-use Rattle.index_sql_schema.specs.Schema.{meta_at, users_at, names_at, owners_at, files_at, blobs_at, yanks_at, cases_at, bans_at, index_schema}
+use Rattle.index_sql_schema.specs.TableTexts.{meta_text, users_text, names_text, owners_text, files_text, blobs_text, yanks_text}
+use Rattle.index_sql_schema.specs.TableTexts.{cases_text, bans_text}
+use Rattle.index_sql_schema.specs.Schema.{meta_at, users_at, names_at, owners_at, files_at, blobs_at, yanks_at, cases_at, bans_at}
+use Rattle.index_sql_schema.specs.Schema.{index_schema}
 use Rattle.index_sql_schema.specs.CreateSteps.{all_texts, stage, IsStage}
 use Rattle.index_sql_schema.specs.Index.{AreRows, IsIndex}
 use Rattle.index_sql_schema.specs.Records.{tables_in}
@@ -30,10 +32,13 @@ pub record Makes (before : Schema) (text : List ℕ) (table : Table) : Type 0 wh
   pub defined : table_defined_by text ≡ Ok table
   pub uncounted : lacks_sequence (created before table) ≡ false
 
-pub creates : (before : Schema) (text : List ℕ) (table : Table) → Makes before text table → (old new : State) (count : ℕ) → old.now.schema ≡ before → Executes text [] old new (Ok count)
-    → (new.now.schema ≡ created before table) × (new.now.trees (next_tree before) ≡ []) × KeepsRows before.tables old.now.trees new.now.trees × IsDatabase new.now
+pub creates : (before : Schema) (text : List ℕ) (table : Table) → Makes before text table → (old new : State) (count : ℕ)
+    → old.now.schema ≡ before → Executes text [] old new (Ok count)
+    → (new.now.schema ≡ created before table) × (new.now.trees (next_tree before) ≡ [])
+    × KeepsRows before.tables old.now.trees new.now.trees × IsDatabase new.now
 creates before text table makes old new count has ran =
-    let w = subst (λ t. Writes old new None CreateTable t [] count) makes.whole (runs_as text [] old new before has CreateTable makes.command makes.plain count ran) in
+    let w = subst (λ t. Writes old new None CreateTable t [] count) makes.whole
+    (runs_as text [] old new before has CreateTable makes.command makes.plain count ran) in
     let all = went w.changed in
     let first = went all.1 in
     let made = first.1 in
@@ -44,7 +49,8 @@ creates before text table makes old new count has ran =
     let now : new.now ≡ first.0 = ap (λ (p : Tally × Database). p.1) (same_value all.2) ∙ same_value (rw plain at first.2) in (
       ap (λ (d : Database). d.schema) now ∙ schema,
       ap (λ (d : Database). d.trees (next_tree before)) now ∙ subst (λ s. first.0.trees (next_tree s) ≡ []) has made.empty,
-      subst (λ (d : Database). KeepsRows before.tables old.now.trees d.trees) (sym now) (subst (λ s. KeepsRows s.tables old.now.trees first.0.trees) has made.others),
+      subst (λ (d : Database). KeepsRows before.tables old.now.trees d.trees) (sym now)
+          (subst (λ s. KeepsRows s.tables old.now.trees first.0.trees) has made.others),
       w.sound,
     )
 
@@ -85,17 +91,26 @@ unfolding understood everything digits
 makes_bans = record { command = refl; whole = refl; plain = (refl, refl); defined = refl; uncounted = refl }
 
 module _ (n : ℕ) (text : List ℕ) (table : Table) (makes : Makes (stage n) text table) (next : created (stage n) table ≡ stage (suc n)) where
-  one_more : (sql : List ℕ) → text ≡ sql → (old new : State) (count : ℕ) → IsStage n old → ExecutesInside 0 sql [] old new (Ok count) → IsStage (suc n) new × (new.committed ≡ old.committed)
+  one_more : (sql : List ℕ) → text ≡ sql → (old new : State) (count : ℕ) → IsStage n old → ExecutesInside 0 sql [] old new (Ok count)
+      → IsStage (suc n) new × (new.committed ≡ old.committed)
   one_more sql is old new count st ran =
       let it = creates (stage n) text table makes old new count st.schema (subst (λ t. Executes t [] old new (Ok count)) (sym is) ran.0) in
       let kept = all_both _ _ (λ (t : Table). new.now.trees t.tree ≡ []) (λ t same none. same ∙ none) (stage n).tables it.2 st.empty in
-      let grown = all-append (λ (t : Table). new.now.trees t.tree ≡ []) (stage n).tables (record table { tree = next_tree (stage n) } ∷ []) kept (it.1, tt) in (
-        record { is_open = ran.1.is_open; inside = ran.1.mode; schema = it.0 ∙ next; sound = it.3; empty = subst (λ (s : Schema). AllByRecursion (λ (t : Table). new.now.trees t.tree ≡ []) s.tables) next grown },
+      let grown = all-append (λ (t : Table). new.now.trees t.tree ≡ []) (stage n).tables (record table { tree = next_tree (stage n) } ∷ [])
+      kept (it.1, tt) in (
+        record {
+          is_open = ran.1.is_open;
+          inside = ran.1.mode;
+          schema = it.0 ∙ next;
+          sound = it.3;
+          empty = subst (λ (s : Schema). AllByRecursion (λ (t : Table). new.now.trees t.tree ≡ []) s.tables) next grown;
+        },
         ran.1.committed_is,
       )
 
 -- the next of the texts makes the next table
-pub stage_step : (n : ℕ) (sql : List ℕ) → slice_get all_texts n ≡ Some sql → (old new : State) (count : ℕ) → IsStage n old → ExecutesInside 0 sql [] old new (Ok count) → IsStage (suc n) new × (new.committed ≡ old.committed)
+pub stage_step : (n : ℕ) (sql : List ℕ) → slice_get all_texts n ≡ Some sql → (old new : State) (count : ℕ) → IsStage n old
+    → ExecutesInside 0 sql [] old new (Ok count) → IsStage (suc n) new × (new.committed ≡ old.committed)
 stage_step zero sql e = one_more 0 meta_text (meta_at 0) makes_meta refl sql cc
 stage_step (suc zero) sql e = one_more 1 users_text (users_at 0) makes_users refl sql cc
 stage_step (suc (suc zero)) sql e = one_more 2 names_text (names_at 0) makes_names refl sql cc
@@ -119,7 +134,8 @@ staged_index s st =
       record {
         schema = st.schema ∙ all_made;
         sound = st.sound;
-        numbered = all_weaker (λ (t : Table). s.now.trees t.tree ≡ []) (λ (t : Table). AreRows (s.now.trees t.tree)) (λ t none. subst AreRows (sym none) (tt, tt)) index_schema.tables st.empty;
+        numbered = all_weaker (λ (t : Table). s.now.trees t.tree ≡ []) (λ (t : Table). AreRows (s.now.trees t.tree))
+            (λ t none. subst AreRows (sym none) (tt, tt)) index_schema.tables st.empty;
       },
       rw (e.1.0, e.1.1.0, e.1.1.1.0, e.1.1.1.1.0, e.1.1.1.1.1.0, e.1.1.1.1.1.1.0, e.1.1.1.1.1.1.1.0, e.1.1.1.1.1.1.1.1.0) refl,
     )

@@ -21,7 +21,8 @@ shown : Deletes 3 (owners_at 6) delete_owner_text (is_param 1 0 ∷ is_param 2 1
 unfolding understood everything same_name joined
 shown = record { compiled = refl; is_plain = (refl, refl); none = λ olds. refl }
 
-pub deletes : (name user : Bytes) (old new : State) (count : ℕ) → IsIndex old.now → Executes delete_owner_text (Text name ∷ Text user ∷ []) old new (Ok count)
+pub deletes : (name user : Bytes) (old new : State) (count : ℕ) → IsIndex old.now
+    → Executes delete_owner_text (Text name ∷ Text user ∷ []) old new (Ok count)
     → Changes (λ T. record T { owners = remove T.owners (name, user) }) old.now new.now
 deletes name user old new count h ran =
     let it = deletes_pair 3 (owners_at 6) owners_keyed delete_owner_text shown nothing_in (name, user) old new count h ran in

@@ -21,7 +21,8 @@ shown : Deletes 3 (owners_at 6) delete_owners_text (is_param 1 0 ∷ [])
 unfolding understood everything same_name joined
 shown = record { compiled = refl; is_plain = (refl, refl); none = λ olds. refl }
 
-pub deletes : (name : Bytes) (old new : State) (count : ℕ) → IsIndex old.now → Executes delete_owners_text (Text name ∷ []) old new (Ok count)
+pub deletes : (name : Bytes) (old new : State) (count : ℕ) → IsIndex old.now
+    → Executes delete_owners_text (Text name ∷ []) old new (Ok count)
     → Changes (λ T. record T { owners = without_name name T.owners }) old.now new.now
 deletes name old new count h ran =
     let it = deletes_name 3 (owners_at 6) owners_keyed delete_owners_text shown nothing_in name old new count h ran in

@@ -21,7 +21,8 @@ shown : Deletes 6 (yanks_at 13) delete_yank_text (is_param 1 0 ∷ is_param 2 1 
 unfolding understood everything same_name joined
 shown = record { compiled = refl; is_plain = (refl, refl); none = λ olds. refl }
 
-pub deletes : (name release : Bytes) (old new : State) (count : ℕ) → IsIndex old.now → Executes delete_yank_text (Text name ∷ Text release ∷ []) old new (Ok count)
+pub deletes : (name release : Bytes) (old new : State) (count : ℕ) → IsIndex old.now
+    → Executes delete_yank_text (Text name ∷ Text release ∷ []) old new (Ok count)
     → Changes (λ T. record T { yanks = remove T.yanks (name, release) }) old.now new.now
 deletes name release old new count h ran =
     let it = deletes_pair 6 (yanks_at 13) yanks_keyed delete_yank_text shown reason_in (name, release) old new count h ran in

@@ -21,7 +21,8 @@ shown : Deletes 6 (yanks_at 13) delete_yanks_text (is_param 1 0 ∷ [])
 unfolding understood everything same_name joined
 shown = record { compiled = refl; is_plain = (refl, refl); none = λ olds. refl }
 
-pub deletes : (name : Bytes) (old new : State) (count : ℕ) → IsIndex old.now → Executes delete_yanks_text (Text name ∷ []) old new (Ok count)
+pub deletes : (name : Bytes) (old new : State) (count : ℕ) → IsIndex old.now
+    → Executes delete_yanks_text (Text name ∷ []) old new (Ok count)
     → Changes (λ T. record T { yanks = without_name name T.yanks }) old.now new.now
 deletes name old new count h ran =
     let it = deletes_name 6 (yanks_at 13) yanks_keyed delete_yanks_text shown reason_in name old new count h ran in

@@ -1,9 +1,12 @@
 -- What an edit makes of a table without a repeated rowid, whatever the order of its rows.
-use Rattle.std.proofs.Common.{◌≡◌, ◌≢◌, inl, inr, ℕ, ℤ, Bool, true, false, not, ◌||◌, ◌&&◌, cond, List, [], ◌∷◌, ◌++◌, map, filter, fold, refl, sym, ap, ap₂, subst, ◌∙◌, arith, true≢false, IsTrue, is_eq, Ordering, Less, Equal, Greater, int_eq, eqb, IsPermutation}
+use Rattle.std.proofs.Common.{◌≡◌, ◌≢◌, inl, inr, ℕ, ℤ, Bool, true, false, not, ◌||◌, ◌&&◌, cond, List, [], ◌∷◌, ◌++◌, map, filter, fold}
+use Rattle.std.proofs.Common.{refl, sym, ap, ap₂, subst, ◌∙◌, arith, true≢false, IsTrue, is_eq, Ordering, Less, Equal, Greater, int_eq, eqb}
+use Rattle.std.proofs.Common.{IsPermutation}
 use Rattle.std.specs.List.{AllByRecursion, list_any}
 use Rattle.std.specs.Ordering.{match_ordering}
 use Rattle.std.proofs.lemmas.Int.{ints}
-use Rattle.std.proofs.lemmas.List.Sorted.{IsPermutation-refl, IsPermutation-sym, IsPermutation-cons, IsPermutation-trans, IsPermutation-middle, IsPermutation-append_right}
+use Rattle.std.proofs.lemmas.List.Sorted.{IsPermutation-refl, IsPermutation-sym, IsPermutation-cons, IsPermutation-trans}
+use Rattle.std.proofs.lemmas.List.Sorted.{IsPermutation-middle, IsPermutation-append_right}
 use Rattle.sqlite_value.specs.declared.value.Value.{Value}
 use Rattle.sqlite_value.specs.declared.value.Value.TheVariants.{Null, Int, Real, Text, Blob}
 use Rattle.sqlite_value.specs.Order.{Row, value_cmp}
@@ -17,7 +20,8 @@ use Rattle.sqlite_rules.specs.Edit.{id_in, numbered, put_all, without_all, is_ta
 use Rattle.sqlite_rules.specs.declared.error.Rowids.TheVariants.{Given}
 use Rattle.sqlite.specs.Effect.{Database}
 use Rattle.sqlite_keyed.specs.Lists.{delete_where, without_key}
-use Rattle.sqlite_keyed.proofs.ListLemmas.{all_weaker, all_both, all-filter, none_from_any, ascending-filter, along_permutation, all_from_test}
+use Rattle.sqlite_keyed.proofs.ListLemmas.{all_weaker, all_both, all-filter, none_from_any, ascending-filter, along_permutation}
+use Rattle.sqlite_keyed.proofs.ListLemmas.{all_from_test}
 use Rattle.sqlite_keyed.proofs.KeyedLemmas.{same_int}
 use Rattle.index_sql_schema.proofs.Permutations.{all_permutation, ascending_permutation}
 use Rattle.index_sql_schema.specs.Schema.{index_schema}
@@ -58,13 +62,16 @@ has_permutation x = along_permutation (λ xs ys. Has xs x → Has ys x)
 pub has_filter : {A : Type 0} (p : A → Bool) (xs : List A) (x : A) → Has xs x → p x ≡ true → Has (filter p xs) x
 has_filter p [] x none t = absurd none
 has_filter p (y ∷ xs) x (inl e) t = rw (ap p (sym e) ∙ t) (inl e)
-has_filter p (y ∷ xs) x (inr h) t = elim (p y) as (λ b. Has (cond b (y ∷ filter p xs) (filter p xs)) x) [ true ↦ inr (has_filter p xs x h t) | false ↦ has_filter p xs x h t ]
+has_filter p (y ∷ xs) x (inr h) t = elim (p y) as (λ b. Has (cond b (y ∷ filter p xs) (filter p xs)) x)
+    [ true ↦ inr (has_filter p xs x h t) | false ↦ has_filter p xs x h t ]
 
 pub filter_passes : {A : Type 0} (p : A → Bool) (xs : List A) → AllByRecursion (λ x. Has xs x × (p x ≡ true)) (filter p xs)
 filter_passes p [] = tt
-filter_passes p (x ∷ xs) = go (p x) refl (all_weaker _ (λ y. Has (x ∷ xs) y × (p y ≡ true)) (λ y h. (inr h.0, h.1)) (filter p xs) (filter_passes p xs))
+filter_passes p (x ∷ xs) = go (p x) refl (all_weaker _ (λ y. Has (x ∷ xs) y × (p y ≡ true)) (λ y h. (inr h.0, h.1)) (filter p xs)
+    (filter_passes p xs))
   where
-    go : (b : Bool) → p x ≡ b → AllByRecursion (λ y. Has (x ∷ xs) y × (p y ≡ true)) (filter p xs) → AllByRecursion (λ y. Has (x ∷ xs) y × (p y ≡ true)) (cond b (x ∷ filter p xs) (filter p xs))
+    go : (b : Bool) → p x ≡ b → AllByRecursion (λ y. Has (x ∷ xs) y × (p y ≡ true)) (filter p xs)
+        → AllByRecursion (λ y. Has (x ∷ xs) y × (p y ≡ true)) (cond b (x ∷ filter p xs) (filter p xs))
     go true e more = ((inl refl, e), more)
     go false e more = more
 
@@ -74,21 +81,28 @@ pub put_fresh : (new : Row) (rows : List Row) → is_taken rows new ≡ false �
 put_fresh new [] free = IsPermutation-refl (new ∷ [])
 put_fresh new (r ∷ rows) free = go (value_cmp (rowid r) (rowid new)) free (put_fresh new rows)
   where
-    go : (o : Ordering) → (is_eq o || is_taken rows new) ≡ false → (is_taken rows new ≡ false → IsPermutation (new ∷ rows) (put_row new rows)) → IsPermutation (new ∷ r ∷ rows) (match_ordering o (r ∷ put_row new rows) (new ∷ rows) (new ∷ r ∷ rows))
-    go Less f more = IsPermutation-trans (new ∷ r ∷ rows) (r ∷ new ∷ rows) (r ∷ put_row new rows) (IsPermutation-middle (new ∷ []) r rows) (IsPermutation-cons r (new ∷ rows) (put_row new rows) (more f))
+    go : (o : Ordering) → (is_eq o || is_taken rows new) ≡ false
+        → (is_taken rows new ≡ false → IsPermutation (new ∷ rows) (put_row new rows))
+        → IsPermutation (new ∷ r ∷ rows) (match_ordering o (r ∷ put_row new rows) (new ∷ rows) (new ∷ r ∷ rows))
+    go Less f more = IsPermutation-trans (new ∷ r ∷ rows) (r ∷ new ∷ rows) (r ∷ put_row new rows) (IsPermutation-middle (new ∷ []) r rows)
+        (IsPermutation-cons r (new ∷ rows) (put_row new rows) (more f))
     go Equal f more = absurd (true≢false f)
     go Greater f more = IsPermutation-refl (new ∷ r ∷ rows)
 
 differs : (new r : Row) → HasRowid new → is_eq (value_cmp (rowid r) (rowid new)) ≡ false → HasRowid r → Differ new r
 differs new r h apart w =
-    let same : is_eq (value_cmp (rowid r) (rowid new)) ≡ int_eq (rowid_in r) (rowid_in new) = ap₂ (λ a b. is_eq (value_cmp a b)) (as_int (rowid r) w) (as_int (rowid new) h) ∙ ap is_eq (value_cmp-Int (rowid_in r) (rowid_in new)) in
+    let same : is_eq (value_cmp (rowid r) (rowid new)) ≡ int_eq (rowid_in r) (rowid_in new) =
+    ap₂ (λ a b. is_eq (value_cmp a b)) (as_int (rowid r) w) (as_int (rowid new) h)
+    ∙ ap is_eq (value_cmp-Int (rowid_in r) (rowid_in new)) in
     other_way r new (sym same ∙ apart)
 
 pub put_rows : (new : Row) (rows : List Row) → HasRowid new → is_taken rows new ≡ false → AreRows rows → AreRows (put_row new rows)
 put_rows new rows h free are =
     let apart = all_both _ HasRowid (Differ new) (λ r. differs new r h) rows (none_from_any _ rows free) are.1 in
-    let p = put_fresh new rows free in
-    (ascending_permutation Differ other_way (new ∷ rows) (put_row new rows) p (apart, are.0), all_permutation HasRowid (new ∷ rows) (put_row new rows) p (h, are.1))
+    let p = put_fresh new rows free in (
+      ascending_permutation Differ other_way (new ∷ rows) (put_row new rows) p (apart, are.0),
+      all_permutation HasRowid (new ∷ rows) (put_row new rows) p (h, are.1),
+    )
 
 not_taken : (b c : Bool) → (not b && c) ≡ true → b ≡ false
 not_taken true c h = absurd (true≢false (sym h))
@@ -99,7 +113,8 @@ later_fresh true c h = absurd (true≢false (sym h))
 later_fresh false c h = h
 
 -- rows at free rowids are added to the others
-pub put_all_fresh : (news rows : List Row) → AllByRecursion HasRowid news → are_fresh rows news ≡ true → AreRows rows → IsPermutation (news ++ rows) (put_all rows news) × AreRows (put_all rows news)
+pub put_all_fresh : (news rows : List Row) → AllByRecursion HasRowid news → are_fresh rows news ≡ true → AreRows rows
+    → IsPermutation (news ++ rows) (put_all rows news) × AreRows (put_all rows news)
 put_all_fresh [] rows h fresh are = (IsPermutation-refl rows, are)
 put_all_fresh (n ∷ news) rows h fresh are =
     let free = not_taken _ _ fresh in
@@ -113,7 +128,8 @@ put_all_fresh (n ∷ news) rows h fresh are =
 abbrev pub among : List ℤ → Row → Bool
 among ids r = list_any (λ id. int_eq (rowid_in r) id) ids
 
-pub filter_with : {A : Type 0} (P : A → Type 0) (p q : A → Bool) → ((a : A) → P a → p a ≡ q a) → (xs : List A) → AllByRecursion P xs → filter p xs ≡ filter q xs
+pub filter_with : {A : Type 0} (P : A → Type 0) (p q : A → Bool) → ((a : A) → P a → p a ≡ q a) → (xs : List A) → AllByRecursion P xs
+    → filter p xs ≡ filter q xs
 filter_with P p q same [] all = refl
 filter_with P p q same (x ∷ xs) all = ap₂ (λ b l. cond b (x ∷ l) l) (same x all.0) (filter_with P p q same xs all.1)
 
@@ -123,15 +139,18 @@ has_is id r h = ap (λ v. is_eq (value_cmp v (Int id))) (as_int (rowid r) h) ∙
 without_is : (ids : List ℤ) (rows : List Row) → AllByRecursion HasRowid rows → without_all rows ids ≡ fold (without_key rowid_in) rows ids
 without_is [] rows whole = refl
 without_is (id ∷ ids) rows whole =
-    ap (λ l. without_all l ids) (filter_with HasRowid (λ r. not (has_rowid id r)) (λ r. not (int_eq (rowid_in r) id)) (λ r h. ap not (has_is id r h)) rows whole)
+    ap (λ l. without_all l ids) (filter_with HasRowid (λ r. not (has_rowid id r)) (λ r. not (int_eq (rowid_in r) id))
+    (λ r h. ap not (has_is id r h)) rows whole)
     ∙ without_is ids (without_key rowid_in rows id) (all-filter HasRowid (λ r. not (int_eq (rowid_in r) id)) rows whole)
 
-fused : {A : Type 0} (p q : A → Bool) (xs : List A) → filter (λ x. not (q x)) (filter (λ x. not (p x)) xs) ≡ filter (λ x. not (p x || q x)) xs
+fused : {A : Type 0} (p q : A → Bool) (xs : List A)
+    → filter (λ x. not (q x)) (filter (λ x. not (p x)) xs) ≡ filter (λ x. not (p x || q x)) xs
 fused p q [] = refl
 fused p q (x ∷ xs) = go (p x) (fused p q xs)
   where
     go : (b : Bool) → filter (λ x. not (q x)) (filter (λ x. not (p x)) xs) ≡ filter (λ x. not (p x || q x)) xs
-        → filter (λ x. not (q x)) (cond (not b) (x ∷ filter (λ x. not (p x)) xs) (filter (λ x. not (p x)) xs)) ≡ cond (not (b || q x)) (x ∷ filter (λ x. not (p x || q x)) xs) (filter (λ x. not (p x || q x)) xs)
+        → filter (λ x. not (q x)) (cond (not b) (x ∷ filter (λ x. not (p x)) xs) (filter (λ x. not (p x)) xs))
+        ≡ cond (not (b || q x)) (x ∷ filter (λ x. not (p x || q x)) xs) (filter (λ x. not (p x || q x)) xs)
     go true more = more
     go false more = ap (λ l. cond (not (q x)) (x ∷ l) l) more
 
@@ -151,14 +170,16 @@ among_has : (ids : List ℤ) (r : Row) → among ids r ≡ true → Has ids (row
 among_has [] r h = absurd (true≢false (sym h))
 among_has (id ∷ ids) r h = go (int_eq (rowid_in r) id) refl h (among_has ids r)
   where
-    go : (b : Bool) → int_eq (rowid_in r) id ≡ b → (b || among ids r) ≡ true → (among ids r ≡ true → Has ids (rowid_in r)) → Has (id ∷ ids) (rowid_in r)
+    go : (b : Bool) → int_eq (rowid_in r) id ≡ b → (b || among ids r) ≡ true → (among ids r ≡ true → Has ids (rowid_in r))
+        → Has (id ∷ ids) (rowid_in r)
     go true e h more = inl (same_int (rowid_in r) id e)
     go false e h more = inr (more h)
 
 has_among : (ids : List ℤ) (r : Row) → Has ids (rowid_in r) → among ids r ≡ true
 has_among [] r none = absurd none
 has_among (id ∷ ids) r (inl e) = let same : int_eq (rowid_in r) id ≡ true = grind (arith, ints) in rw same refl
-has_among (id ∷ ids) r (inr h) = rw (has_among ids r h) (elim (int_eq (rowid_in r) id) as (λ b. (b || true) ≡ true) [ true ↦ refl | false ↦ refl ])
+has_among (id ∷ ids) r (inr h) = rw (has_among ids r h)
+    (elim (int_eq (rowid_in r) id) as (λ b. (b || true) ≡ true) [ true ↦ refl | false ↦ refl ])
 
 never_differ : (a b : Row) → rowid_in a ≡ rowid_in b → Differ a b → ⊥
 never_differ a b e h = let same : int_eq (rowid_in a) (rowid_in b) ≡ true = grind (arith, ints) in absurd (true≢false (sym same ∙ h))
@@ -172,7 +193,8 @@ one_row (x ∷ rows) a b apart (inr p) (inl q) e = absurd (never_differ x a (ap 
 one_row (x ∷ rows) a b apart (inr p) (inr q) e = one_row rows a b apart.1 p q e
 
 -- the rowids of the rows that pass, and no others, are taken out
-pub passed_gone : (rows : List Row) (ids : List ℤ) (p : Row → Bool) → AreRows rows → ((id : ℤ) → Has ids id → (r : Row) × Has rows r × (p r ≡ true) × (rowid_in r ≡ id))
+pub passed_gone : (rows : List Row) (ids : List ℤ) (p : Row → Bool) → AreRows rows
+    → ((id : ℤ) → Has ids id → (r : Row) × Has rows r × (p r ≡ true) × (rowid_in r ≡ id))
     → ((r : Row) → Has rows r → p r ≡ true → Has ids (rowid_in r)) → without_all rows ids ≡ delete_where p rows
 passed_gone rows ids p are sound complete = without_is ids rows are.1 ∙ folded ids rows ∙ members _ _ rows (λ r h. ap not (same r h))
   where
@@ -182,7 +204,8 @@ passed_gone rows ids p are sound complete = without_is ids rows are.1 ∙ folded
         go : (a b : Bool) → among ids r ≡ a → p r ≡ b → a ≡ b
         go true true s t = refl
         go false false s t = refl
-        go true false s t = let it = sound (rowid_in r) (among_has ids r s) in let found = one_row rows it.0 r are.0 it.1 h it.3 in absurd (true≢false (sym it.2 ∙ ap p found ∙ t))
+        go true false s t = let it = sound (rowid_in r) (among_has ids r s) in let found = one_row rows it.0 r are.0 it.1 h it.3 in
+            absurd (true≢false (sym it.2 ∙ ap p found ∙ t))
         go false true s t = absurd (true≢false (sym (has_among ids r (complete r h t)) ∙ s))
 
 has_map : {A B : Type 0} (f : A → B) (xs : List A) (x : A) → Has xs x → Has (map f xs) (f x)
@@ -196,10 +219,12 @@ map_has f (y ∷ xs) b (inl e) = (y, inl refl, sym e)
 map_has f (y ∷ xs) b (inr h) = let it = map_has f xs b h in (it.0, inr it.1, it.2)
 
 -- the rows that pass are taken out, in whatever order they were found
-pub matched_gone : (rows ordered : List Row) (p : Row → Bool) → AreRows rows → IsPermutation (filter p rows) ordered → without_all rows (map rowid_in ordered) ≡ delete_where p rows
+pub matched_gone : (rows ordered : List Row) (p : Row → Bool) → AreRows rows → IsPermutation (filter p rows) ordered
+    → without_all rows (map rowid_in ordered) ≡ delete_where p rows
 matched_gone rows ordered p are same =
     passed_gone rows (map rowid_in ordered) p are
-    (λ id h. let it = map_has rowid_in ordered id h in let both = has_all _ ordered it.0 (all_permutation _ (filter p rows) ordered same (filter_passes p rows)) it.1 in (it.0, both.0, both.1, it.2))
+    (λ id h. let it = map_has rowid_in ordered id h in let both =
+    has_all _ ordered it.0 (all_permutation _ (filter p rows) ordered same (filter_passes p rows)) it.1 in (it.0, both.0, both.1, it.2))
     (λ r h t. has_map rowid_in ordered r (has_permutation r (filter p rows) ordered same (has_filter p rows r h t)))
 
 pub kept_rows : (p : Row → Bool) (rows : List Row) → AreRows rows → AreRows (delete_where p rows)
@@ -232,16 +257,20 @@ numbered_after tree db next others here before = all_both _ _ (λ (t : Table). A
 abbrev pub Alters : ℕ → Database → Database → Type 0
 Alters tree old new = KeepsOthers tree old.trees new.trees × (AreRecords old → AreRecords new)
 
-pub altered : (tree : ℕ) (old new : Database) → IsIndex old → IsIndex new → KeepsOthers tree old.trees new.trees → (AreRecordsIn old.trees tree → AreRecordsIn new.trees tree) → Alters tree old new
+pub altered : (tree : ℕ) (old new : Database) → IsIndex old → IsIndex new → KeepsOthers tree old.trees new.trees
+    → (AreRecordsIn old.trees tree → AreRecordsIn new.trees tree) → Alters tree old new
 altered tree old new h g others here = (
   others,
   λ before. subst (λ (s : Schema). AreRecordsOf s.tables new.trees) (sym g.schema)
-      (all_both _ _ (λ (t : Table). AreRecordsIn new.trees t.tree) one index_schema.tables others (subst (λ (s : Schema). AreRecordsOf s.tables old.trees) h.schema before)),
+      (all_both _ _ (λ (t : Table). AreRecordsIn new.trees t.tree) one index_schema.tables others
+      (subst (λ (s : Schema). AreRecordsOf s.tables old.trees) h.schema before)),
 )
   where
-    one : (t : Table) → (t.tree ≢ tree → new.trees t.tree ≡ old.trees t.tree) → AreRecordsIn old.trees t.tree → AreRecordsIn new.trees t.tree
+    one : (t : Table) → (t.tree ≢ tree → new.trees t.tree ≡ old.trees t.tree) → AreRecordsIn old.trees t.tree
+        → AreRecordsIn new.trees t.tree
     one t same was = go (eqb t.tree tree) refl
       where
         go : (b : Bool) → eqb t.tree tree ≡ b → AreRecordsIn new.trees t.tree
-        go true e = let found : t.tree ≡ tree = grind arith in subst (AreRecordsIn new.trees) (sym found) (here (subst (AreRecordsIn old.trees) found was))
+        go true e = let found : t.tree ≡ tree = grind arith in
+            subst (AreRecordsIn new.trees) (sym found) (here (subst (AreRecordsIn old.trees) found was))
         go false e = let apart : t.tree ≢ tree = grind arith in subst (AllByRecursion (IsRecordIn t.tree)) (sym (same apart)) was

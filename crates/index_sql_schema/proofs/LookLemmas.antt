@@ -46,13 +46,15 @@ more_faults a b c less more = grind arith
 module _ {S : Type 0} (g : Ghosts S) where
   -- ---- one look
 
-  module _ (old new : Held S) (sql : List ℕ) (params : Row) (plain : IsPlain (understood index_schema sql)) (kept : IsIndexConnection g old) (ended : new.in_transaction ≡ false)
+  module _ (old new : Held S) (sql : List ℕ) (params : Row) (plain : IsPlain (understood index_schema sql)) (kept : IsIndexConnection g old)
+      (ended : new.in_transaction ≡ false)
       (survives : Survives (state g old) (state g new) (CommitsShowing sql params (state g old))) where
     was_clean : HasCleanDisk (state g new) → HasCleanDisk (state g old)
     was_clean = clean_before (state g old) (state g new) _ survives
 
     -- of a query with this text, which leaves it as it was, or undoes it
-    pub looks_by : (did : Bool) → (HasCleanDisk (state g new) → IsUnchangedIfOpen (state g old) (state g new)) → (IsTrue did → HasCleanDisk (state g new) → IsTrue (state g new).is_open) → QueriesOnly g old new did
+    pub looks_by : (did : Bool) → (HasCleanDisk (state g new) → IsUnchangedIfOpen (state g old) (state g new))
+        → (IsTrue did → HasCleanDisk (state g new) → IsTrue (state g new).is_open) → QueriesOnly g old new did
     looks_by did stays is_open = record {
       outside = λ _. ended;
       was_clean = was_clean;
@@ -61,19 +63,23 @@ module _ {S : Type 0} (g : Ghosts S) where
       committed_is = λ clean. (stays clean).committed_is;
       lasts = λ it clean was. is_open it clean;
       same = λ it clean. (stays clean).now_is (is_open it clean);
-      survives = survives_weaker (state g old) (state g new) _ _ (λ _ db. commits_nowhere index_schema sql params (state g old) db plain) survives;
+      survives = survives_weaker (state g old) (state g new) _ _ (λ _ db. commits_nowhere index_schema sql params (state g old) db plain)
+          survives;
     }
 
     -- what shows rows was open
-    pub index_shown : HasCleanDisk (state g new) → (rows : List Row) → Shown sql params (state g old) (state g new) rows → IsIndex (state g old).now
+    pub index_shown : HasCleanDisk (state g new) → (rows : List Row) → Shown sql params (state g old) (state g new) rows
+        → IsIndex (state g old).now
     index_shown clean rows shown = kept.index (was_clean clean) (shown_open (state g old) (state g new) sql params rows shown).0
 
-    pub looks_shown : (rows : List Row) → (HasCleanDisk (state g new) → Shown sql params (state g old) (state g new) rows) → QueriesOnly g old new true
+    pub looks_shown : (rows : List Row) → (HasCleanDisk (state g new) → Shown sql params (state g old) (state g new) rows)
+        → QueriesOnly g old new true
     looks_shown rows shown = looks_by true
         (λ clean. shown_stays (state g old) (state g new) sql params rows (index_shown clean rows (shown clean)).schema plain (shown clean))
         (λ it clean. (shown_open (state g old) (state g new) sql params rows (shown clean)).1)
 
-    pub looks_refused : (e : Error) → (HasCleanDisk (state g new) → FailsToQuery sql params (state g old) (state g new) e) → QueriesOnly g old new false
+    pub looks_refused : (e : Error) → (HasCleanDisk (state g new) → FailsToQuery sql params (state g old) (state g new) e)
+        → QueriesOnly g old new false
     looks_refused e fails = looks_by false
         (λ clean. refused_stays (state g old) (state g new) sql params e (kept.committed (was_clean clean)) (fails clean))
         (λ it. absurd (cc))
@@ -103,7 +109,8 @@ module _ {S : Type 0} (g : Ghosts S) where
     committed_is = λ clean o. second.committed_is clean o ∙ first.committed_is (second.was_clean clean) (second.was_open clean o);
     lasts = λ it clean o. second.lasts it clean (first.lasts refl (second.was_clean clean) o);
     same = λ it clean. second.same it clean ∙ first.same refl (second.was_clean clean);
-    survives = survives_then (state g a) (state g b) (state g c) _ _ _ (λ _ db none. none) (λ _ db none. none) first.survives second.survives;
+    survives = survives_then (state g a) (state g b) (state g c) _ _ _ (λ _ db none. none) (λ _ db none. none)
+        first.survives second.survives;
   }
 
   -- what follows looks that succeeded may fail
@@ -129,7 +136,8 @@ module _ {S : Type 0} (g : Ghosts S) where
 
   -- ---- why one fails
 
-  reason_of : (old new : State) (cause : StoreError) → HasCause old new ⊥ cause → fault_by (store_error cause) ≡ fault.Store → HasReason old new
+  reason_of : (old new : State) (cause : StoreError) → HasCause old new ⊥ cause → fault_by (store_error cause) ≡ fault.Store
+      → HasReason old new
   reason_of old new OutOfMemory it is = absurd (let e = is in cc)
   reason_of old new Io it is = inl it
   reason_of old new Corrupt it is = inl it
@@ -138,7 +146,8 @@ module _ {S : Type 0} (g : Ghosts S) where
   reason_of old new Unstorable it is = absurd it
 
   -- a sure query of an index that is open fails with the store
-  pub reasoned : (old new : Held S) (sql : List ℕ) (params : Row) (e : Error) → IsIndexConnection g old → HasCleanDisk (state g old) → IsSure sql params → FailsToQuery sql params (state g old) (state g new) e
+  pub reasoned : (old new : Held S) (sql : List ℕ) (params : Row) (e : Error) → IsIndexConnection g old → HasCleanDisk (state g old)
+      → IsSure sql params → FailsToQuery sql params (state g old) (state g new) e
       → fault_by e ≡ fault.Store → HasReason (state g old) (state g new)
   reasoned old new sql params e kept clean sure fails is = elim (cases_Bool (state g old).is_open) [
     | inl opened ↦ elim (fails_for sql params (state g old) (state g new) e (kept.index clean opened).schema sure fails) [
@@ -149,18 +158,22 @@ module _ {S : Type 0} (g : Ghosts S) where
   ]
 
   -- a reason after looks that succeeded is one from the first of them on
-  pub reason_then : (a b c : Held S) → QueriesOnly g a b true → HasCleanDisk (state g b) → HasReason (state g b) (state g c) → HasReason (state g a) (state g c)
+  pub reason_then : (a b c : Held S) → QueriesOnly g a b true → HasCleanDisk (state g b) → HasReason (state g b) (state g c)
+      → HasReason (state g a) (state g c)
   reason_then a b c it clean reason = elim (cases_Bool (state g a).is_open) [
     | inr shut ↦ inr (inl shut)
     | inl opened ↦ later it.survives (it.lasts refl clean opened) reason
   ]
     where
-      later : Survives (state g a) (state g b) (λ _. ⊥) → IsTrue (state g b).is_open → HasReason (state g b) (state g c) → HasReason (state g a) (state g c)
+      later : Survives (state g a) (state g b) (λ _. ⊥) → IsTrue (state g b).is_open → HasReason (state g b) (state g c)
+          → HasReason (state g a) (state g c)
       later s opened (inl more) = inl (more_faults _ _ _ s.counts more)
       later s opened (inr (inl shut)) = absurd (true≢false (sym opened ∙ shut))
       later s opened (inr (inr limit)) = inr (inr (subst IsSome s.limit limit))
 
   -- so it is of what fails after them
-  pub reason_after : (a b c : Held S) (P : Type 0) → QueriesOnly g a b true → (HasCleanDisk (state g c) → HasCleanDisk (state g b)) → (HasCleanDisk (state g c) → AreRecords (state g b).now → P → HasReason (state g b) (state g c))
+  pub reason_after : (a b c : Held S) (P : Type 0) → QueriesOnly g a b true → (HasCleanDisk (state g c) → HasCleanDisk (state g b))
+      → (HasCleanDisk (state g c) → AreRecords (state g b).now → P → HasReason (state g b) (state g c))
       → HasCleanDisk (state g c) → AreRecords (state g a).now → P → HasReason (state g a) (state g c)
-  reason_after a b c P first before fails clean records it = reason_then a b c first (before clean) (fails clean (subst AreRecords (sym (first.same refl (before clean))) records) it)
+  reason_after a b c P first before fails clean records it =
+      reason_then a b c first (before clean) (fails clean (subst AreRecords (sym (first.same refl (before clean))) records) it)

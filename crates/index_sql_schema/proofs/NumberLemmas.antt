@@ -1,5 +1,6 @@
 -- Tests of a column of whole numbers against a number.
-use Rattle.std.proofs.Common.{◌≡◌, ◌==◌, ℕ, suc, ℤ, pos, negsuc, Bool, true, false, not, [], ◌∷◌, refl, sym, ap, ◌∙◌, int_eq, arith, true≢false}
+use Rattle.std.proofs.Common.{◌≡◌, ◌==◌, ℕ, suc, ℤ, pos, negsuc, Bool, true, false, not, [], ◌∷◌, refl, sym, ap, ◌∙◌, int_eq, arith}
+use Rattle.std.proofs.Common.{true≢false}
 use Rattle.std.proofs.lemmas.Int.{ints}
 use Rattle.sqlite_value.specs.declared.value.Value.TheVariants.{Int}
 use Rattle.sqlite_value.specs.declared.keys.Collation.TheVariants.{Binary}
@@ -36,8 +37,11 @@ same_number (pos m) n = go (int_eq (pos m) (pos (suc n))) (m == suc n) refl refl
 same_number (negsuc m) n = let none : (0 == suc n) ≡ false = grind arith in sym none
 
 -- it equals a number above 0 if that is the number that it stands for
-pub number_test : (params : Row) (place n : ℕ) (r : Row) → IsNumber place r → holds (params ∷ r ∷ []) (is_number Eq place (suc n)) ≡ (number_in (column r place) == suc n)
+pub number_test : (params : Row) (place n : ℕ) (r : Row) → IsNumber place r
+    → holds (params ∷ r ∷ []) (is_number Eq place (suc n)) ≡ (number_in (column r place) == suc n)
 number_test params place n r is = rw is (at_ints false Eq (id_in (column r place)) (pos (suc n)) ∙ same_number (id_in (column r place)) n)
 
-pub other_test : (params : Row) (place n : ℕ) (r : Row) → IsNumber place r → holds (params ∷ r ∷ []) (is_number Ne place (suc n)) ≡ not (number_in (column r place) == suc n)
-other_test params place n r is = rw is (at_ints false Ne (id_in (column r place)) (pos (suc n)) ∙ ap not (same_number (id_in (column r place)) n))
+pub other_test : (params : Row) (place n : ℕ) (r : Row) → IsNumber place r
+    → holds (params ∷ r ∷ []) (is_number Ne place (suc n)) ≡ not (number_in (column r place) == suc n)
+other_test params place n r is = rw is (at_ints false Ne (id_in (column r place)) (pos (suc n))
+    ∙ ap not (same_number (id_in (column r place)) n))

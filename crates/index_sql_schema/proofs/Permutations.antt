@@ -6,7 +6,8 @@ use Rattle.sqlite_trees.specs.Tree.{IsAscending}
 use Rattle.sqlite_keyed.proofs.ListLemmas.{all_weaker, filter_none, along_permutation}
 
 -- a test that passes at most one of two elements passes at most one element
-pub one_passes : {A : Type 0} (R : A → A → Type 0) (p : A → Bool) (xs : List A) → ((a b : A) → R a b → p a ≡ true → p b ≡ false) → IsAscending R xs → length (filter p xs) ≤ 1
+pub one_passes : {A : Type 0} (R : A → A → Type 0) (p : A → Bool) (xs : List A) → ((a b : A) → R a b → p a ≡ true → p b ≡ false)
+    → IsAscending R xs → length (filter p xs) ≤ 1
 one_passes R p [] apart up = omega arith
 one_passes R p (x ∷ xs) apart up = go (p x) refl (one_passes R p xs apart up.1)
   where
@@ -22,7 +23,8 @@ alone x (y ∷ []) len all = ap (λ z. z ∷ []) (all 0 y (omega arith))
 alone x (y ∷ z ∷ more) len all = absurd (omega arith)
 
 single : {A : Type 0} (x : A) (ys : List A) → IsPermutation (x ∷ []) ys → ys ≡ x ∷ []
-single x ys h = alone x ys (length_permutation (x ∷ []) ys h) (All-permutation (λ y. y ≡ x) (x ∷ []) ys h (λ i d low. let first : i ≡ 0 = omega arith in rw first))
+single x ys h = alone x ys (length_permutation (x ∷ []) ys h)
+    (All-permutation (λ y. y ≡ x) (x ∷ []) ys h (λ i d low. let first : i ≡ 0 = omega arith in rw first))
 
 -- a list of at most one element has no other order
 pub short_permutation : {A : Type 0} (xs ys : List A) → length xs ≤ 1 → IsPermutation xs ys → ys ≡ xs
@@ -42,7 +44,8 @@ module _ {A : Type 0} (P : A → Type 0) where
 
 module _ {A : Type 0} (R : A → A → Type 0) (flip : (a b : A) → R a b → R b a) where
   pub ascending_permutation : (xs ys : List A) → IsPermutation xs ys → IsAscending R xs → IsAscending R ys
-  ascending_permutation xs ys p = (along_permutation (λ xs ys. (IsAscending R xs → IsAscending R ys) × ((a : A) → AllByRecursion (R a) xs → AllByRecursion (R a) ys))
+  ascending_permutation xs ys p = (along_permutation
+      (λ xs ys. (IsAscending R xs → IsAscending R ys) × ((a : A) → AllByRecursion (R a) xs → AllByRecursion (R a) ys))
       (λ xs. (λ h. h, λ a h. h))
       (λ x xs ys more. (λ h. (more.1 x h.0, more.0 h.1), λ a h. (h.0, more.1 a h.1)))
       (λ x y xs. (λ h. ((flip x y h.0.0, h.1.0), (h.0.1, h.1.1)), λ a h. (h.1.0, (h.0, h.1.1))))

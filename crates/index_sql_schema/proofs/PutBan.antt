@@ -38,7 +38,8 @@ is_plain : IsPlain (understood index_schema put_ban_text)
 unfolding understood everything
 is_plain = (refl, refl)
 
-compiled : command_of (understood index_schema put_ban_text) ≡ InsertOr 8 Abort (Values terms 2) (on_conflict 17 1 (1 ∷ []) (col 1 0 ∷ project) ∷ [])
+compiled : command_of (understood index_schema put_ban_text)
+    ≡ InsertOr 8 Abort (Values terms 2) (on_conflict 17 1 (1 ∷ []) (col 1 0 ∷ project) ∷ [])
 unfolding understood everything
 compiled = refl
 
@@ -56,10 +57,12 @@ module _ (file : Bytes) where
   unfolding same_name joined
   no_works olds id = refl
 
-  becomes : (made : ℤ) (r : Row) → rowid r ≡ Int (rowid_in r) → column r 1 ≡ Text file → updated (bans_at 17) cells project made r ≡ Int (rowid_in r) ∷ cells
+  becomes : (made : ℤ) (r : Row) → rowid r ≡ Int (rowid_in r) → column r 1 ≡ Text file
+      → updated (bans_at 17) cells project made r ≡ Int (rowid_in r) ∷ cells
   becomes made r is_id _ = rw (is_id, cast_int (rowid_in r)) refl
 
-  pub puts : ((id : ℤ) → IsBannedRow (Int id ∷ cells)) → (old new : State) (count : ℕ) → IsIndex old.now → Executes put_ban_text cells old new (Ok count)
+  pub puts : ((id : ℤ) → IsBannedRow (Int id ∷ cells)) → (old new : State) (count : ℕ) → IsIndex old.now
+      → Executes put_ban_text cells old new (Ok count)
       → Changes (λ T. record T { bans = insert T.bans file tt }) old.now new.now
   puts fits old new count h ran =
       let it = puts_text 8 (bans_at 17) bans_keyed put_ban_text file [] terms project 2 nothing_in tt (λ id. refl) (record {

@@ -70,24 +70,37 @@ module _ (file body : Bytes) where
   unfolding same_name joined
   no_works olds id = refl
 
-  pub puts : ((id : ℤ) → IsStoredRow (Int id ∷ cells)) → (old new : State) (count : ℕ) → IsIndex old.now → Executes put_body_text cells old new (Ok count)
+  pub puts : ((id : ℤ) → IsStoredRow (Int id ∷ cells)) → (old new : State) (count : ℕ) → IsIndex old.now
+      → Executes put_body_text cells old new (Ok count)
       → Changes (λ T. record T { bodies = insert T.bodies file body }) old.now new.now
   puts fits old new count h ran =
       let db = old.now.trees in
       let next = new.now.trees in
       let w = runs_as put_body_text cells old new index_schema h.schema command compiled is_plain count ran in
       let t = statement_of put_body_text (understood index_schema put_body_text) in
-      let did = subst (λ s. Does old.step_limit (mode_of old) cells (record { schema = s; trees = db }) t None command (Ok (w.tally, new.now))) h.schema w.changed in
+      let did = subst (λ s. Does old.step_limit (mode_of old) cells (record { schema = s; trees = db }) t None command
+      (Ok (w.tally, new.now))) h.schema w.changed in
       let wrote = insert_edit old.step_limit (mode_of old) cells index_schema db t 5 (blobs_at 11) refl w.tally new.now refl terms 3 did in
       let id = next_rowid (db 11) in
-      let edit : edit_of db (blobs_at 11) [] Chosen 0 (value_rows (stamped (blobs_at 11) cells) 3 1 terms) ≡ edit_with (blobs_at 11) [] (row id ∷ []) =
+      let edit : edit_of db (blobs_at 11) [] Chosen 0 (value_rows (stamped (blobs_at 11) cells) 3 1 terms)
+      ≡ edit_with (blobs_at 11) [] (row id ∷ []) =
       ap (λ r. record { table = blobs_at 11; gone = []; news = with_rowid Chosen (db 11) r ∷ [] }) new_cast in
-      let it = one_step index_schema Enforced db next (edit_with (blobs_at 11) [] (row id ∷ [])) (no_works [] id) (subst (λ e. Writes index_schema Enforced db e (Ok next)) edit wrote.1) in
+      let it = one_step index_schema Enforced db next (edit_with (blobs_at 11) [] (row id ∷ [])) (no_works [] id)
+      (subst (λ e. Writes index_schema Enforced db e (Ok next)) edit wrote.1) in
       let put = put_all_fresh (row id ∷ []) (db 11) (refl, tt) it.fresh (are_rows 5 (blobs_at 11) refl old.now h) in
       let order : IsPermutation (row id ∷ db 11) (next 11) = subst (IsPermutation (row id ∷ db 11)) (sym it.rows) put.0 in
-      let index : IsIndex new.now = record { schema = wrote.0; sound = w.sound; numbered = numbered_after 11 db next it.tables (subst AreRows (sym it.rows) put.1) h.numbered } in
+      let index : IsIndex new.now = record {
+        schema = wrote.0;
+        sound = w.sound;
+        numbered = numbered_after 11 db next it.tables (subst AreRows (sym it.rows) put.1) h.numbered;
+      } in
       -- the key tells the rows apart, so none of those before has it
-      let apart = ascending_permutation (λ a b. eq_by_cmp bytes_cmp (text_key a) (text_key b) ≡ false) (λ a b e. (eq_by_cmp_equiv nat_list_cmp_total).symm (text_key b) (text_key a) ∙ e) (next 11) (row id ∷ db 11) (IsPermutation-sym _ _ order) (blobs_keyed.apart new.now index) in
-      let alone : delete_where (λ r. eq_by_cmp bytes_cmp file (text_key r)) (db 11) ≡ db 11 = filter_all (λ r. not (eq_by_cmp bytes_cmp file (text_key r))) (db 11) (all_weaker _ _ (λ r e. ap not e) (db 11) apart.0) in
-      let is = put_is nat_list_cmp_total exact_bytes text_key body_in 11 blobs_keyed.apart old.now new.now index (row id) (subst (λ l. IsPermutation (row id ∷ l) (next 11)) (sym alone) order) in
-      bodies_change old.now new.now index (λ T. insert T.bodies file body) is (altered 11 old.now new.now h index it.tables (λ before. all_permutation (IsRecordIn 11) _ _ order (fits id, before)))
+      let apart = ascending_permutation (λ a b. eq_by_cmp bytes_cmp (text_key a) (text_key b) ≡ false)
+      (λ a b e. (eq_by_cmp_equiv nat_list_cmp_total).symm (text_key b) (text_key a) ∙ e) (next 11) (row id ∷ db 11)
+      (IsPermutation-sym _ _ order) (blobs_keyed.apart new.now index) in
+      let alone : delete_where (λ r. eq_by_cmp bytes_cmp file (text_key r)) (db 11) ≡ db 11 =
+      filter_all (λ r. not (eq_by_cmp bytes_cmp file (text_key r))) (db 11) (all_weaker _ _ (λ r e. ap not e) (db 11) apart.0) in
+      let is = put_is nat_list_cmp_total exact_bytes text_key body_in 11 blobs_keyed.apart old.now new.now index (row id)
+      (subst (λ l. IsPermutation (row id ∷ l) (next 11)) (sym alone) order) in
+      bodies_change old.now new.now index (λ T. insert T.bodies file body) is
+      (altered 11 old.now new.now h index it.tables (λ before. all_permutation (IsRecordIn 11) _ _ order (fits id, before)))

@@ -38,7 +38,8 @@ is_plain : IsPlain (understood index_schema put_file_text)
 unfolding understood everything
 is_plain = (refl, refl)
 
-compiled : command_of (understood index_schema put_file_text) ≡ InsertOr 4 Abort (Values terms 8) (on_conflict 8 7 (1 ∷ []) (col 1 0 ∷ project) ∷ [])
+compiled : command_of (understood index_schema put_file_text)
+    ≡ InsertOr 4 Abort (Values terms 8) (on_conflict 8 7 (1 ∷ []) (col 1 0 ∷ project) ∷ [])
 unfolding understood everything
 compiled = refl
 
@@ -56,13 +57,17 @@ module _ (file name release digest : Bytes) (size : ℤ) (requires : Bytes) (liv
   unfolding same_name joined
   no_works olds id = refl
 
-  becomes : (made : ℤ) (r : Row) → rowid r ≡ Int (rowid_in r) → column r 1 ≡ Text file → updated (files_at 8) cells project made r ≡ Int (rowid_in r) ∷ cells
+  becomes : (made : ℤ) (r : Row) → rowid r ≡ Int (rowid_in r) → column r 1 ≡ Text file
+      → updated (files_at 8) cells project made r ≡ Int (rowid_in r) ∷ cells
   becomes made r is_id is_key = rw (is_id, is_key, cast_int (rowid_in r), cast_int size, cast_int live) refl
 
-  pub puts : ((id : ℤ) → IsFiledRow (Int id ∷ cells)) → (old new : State) (count : ℕ) → IsIndex old.now → Executes put_file_text cells old new (Ok count)
+  pub puts : ((id : ℤ) → IsFiledRow (Int id ∷ cells)) → (old new : State) (count : ℕ) → IsIndex old.now
+      → Executes put_file_text cells old new (Ok count)
       → Changes (λ T. record T { files = insert T.files file (file_in (Int (pos 0) ∷ cells)) }) old.now new.now
   puts fits old new count h ran =
-      let it = puts_text 4 (files_at 8) files_keyed put_file_text file (Text name ∷ Text release ∷ Blob digest ∷ Int size ∷ Text requires ∷ Int live ∷ []) terms project 8 file_in (file_in (Int (pos 0) ∷ cells)) (λ id. refl) (record {
+      let it = puts_text 4 (files_at 8) files_keyed put_file_text file
+      (Text name ∷ Text release ∷ Blob digest ∷ Int size ∷ Text requires ∷ Int live ∷ []) terms project 8 file_in
+      (file_in (Int (pos 0) ∷ cells)) (λ id. refl) (record {
         is_plain = is_plain;
         compiled = compiled;
         uncounted = refl;

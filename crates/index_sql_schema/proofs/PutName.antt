@@ -39,7 +39,8 @@ is_plain : IsPlain (understood index_schema put_name_text)
 unfolding understood everything
 is_plain = (refl, refl)
 
-compiled : command_of (understood index_schema put_name_text) ≡ InsertOr 2 Abort (Values terms 8) (on_conflict 4 7 (1 ∷ []) (col 1 0 ∷ project) ∷ [])
+compiled : command_of (understood index_schema put_name_text)
+    ≡ InsertOr 2 Abort (Values terms 8) (on_conflict 4 7 (1 ∷ []) (col 1 0 ∷ project) ∷ [])
 unfolding understood everything
 compiled = refl
 
@@ -57,13 +58,26 @@ module _ (name : Bytes) (number : ℤ) (shown : Bytes) (quota charged live : ℤ
   unfolding same_name joined
   no_works olds id = refl
 
-  becomes : (made : ℤ) (r : Row) → rowid r ≡ Int (rowid_in r) → column r 1 ≡ Text name → updated (names_at 4) cells project made r ≡ Int (rowid_in r) ∷ cells
-  becomes made r is_id is_key = rw (is_id, is_key, cast_int (rowid_in r), cast_int number, cast_int quota, cast_int charged, cast_int live, cast_if_any last) refl
+  becomes : (made : ℤ) (r : Row) → rowid r ≡ Int (rowid_in r) → column r 1 ≡ Text name
+      → updated (names_at 4) cells project made r ≡ Int (rowid_in r) ∷ cells
+  becomes made r is_id is_key = rw (
+    is_id,
+    is_key,
+    cast_int (rowid_in r),
+    cast_int number,
+    cast_int quota,
+    cast_int charged,
+    cast_int live,
+    cast_if_any last,
+  ) refl
 
-  pub puts : ((id : ℤ) → IsNamedRow (Int id ∷ cells)) → (old new : State) (count : ℕ) → IsIndex old.now → Executes put_name_text cells old new (Ok count)
+  pub puts : ((id : ℤ) → IsNamedRow (Int id ∷ cells)) → (old new : State) (count : ℕ) → IsIndex old.now
+      → Executes put_name_text cells old new (Ok count)
       → Changes (λ T. record T { names = insert T.names name (name_in (Int (pos 0) ∷ cells)) }) old.now new.now
   puts fits old new count h ran =
-      let it = puts_text 2 (names_at 4) names_keyed put_name_text name (Int number ∷ Text shown ∷ Int quota ∷ Int charged ∷ Int live ∷ or_null Int last ∷ []) terms project 8 name_in (name_in (Int (pos 0) ∷ cells)) (λ id. refl) (record {
+      let it = puts_text 2 (names_at 4) names_keyed put_name_text name
+      (Int number ∷ Text shown ∷ Int quota ∷ Int charged ∷ Int live ∷ or_null Int last ∷ []) terms project 8 name_in
+      (name_in (Int (pos 0) ∷ cells)) (λ id. refl) (record {
         is_plain = is_plain;
         compiled = compiled;
         uncounted = refl;

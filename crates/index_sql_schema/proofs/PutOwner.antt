@@ -38,7 +38,8 @@ is_plain : IsPlain (understood index_schema put_owner_text)
 unfolding understood everything
 is_plain = (refl, refl)
 
-compiled : command_of (understood index_schema put_owner_text) ≡ InsertOr 3 Abort (Values terms 3) (on_conflict 6 2 (1 ∷ 2 ∷ []) (col 1 0 ∷ project) ∷ [])
+compiled : command_of (understood index_schema put_owner_text)
+    ≡ InsertOr 3 Abort (Values terms 3) (on_conflict 6 2 (1 ∷ 2 ∷ []) (col 1 0 ∷ project) ∷ [])
 unfolding understood everything
 compiled = refl
 
@@ -56,10 +57,12 @@ module _ (name user : Bytes) where
   unfolding same_name joined
   no_works olds id = refl
 
-  becomes : (made : ℤ) (r : Row) → rowid r ≡ Int (rowid_in r) → column r 1 ≡ Text name → column r 2 ≡ Text user → updated (owners_at 6) cells project made r ≡ Int (rowid_in r) ∷ cells
+  becomes : (made : ℤ) (r : Row) → rowid r ≡ Int (rowid_in r) → column r 1 ≡ Text name → column r 2 ≡ Text user
+      → updated (owners_at 6) cells project made r ≡ Int (rowid_in r) ∷ cells
   becomes made r is_id is_first _ = rw (is_id, is_first, cast_int (rowid_in r)) refl
 
-  pub puts : ((id : ℤ) → IsOwnedRow (Int id ∷ cells)) → (old new : State) (count : ℕ) → IsIndex old.now → Executes put_owner_text cells old new (Ok count)
+  pub puts : ((id : ℤ) → IsOwnedRow (Int id ∷ cells)) → (old new : State) (count : ℕ) → IsIndex old.now
+      → Executes put_owner_text cells old new (Ok count)
       → Changes (λ T. record T { owners = insert T.owners (name, user) tt }) old.now new.now
   puts fits old new count h ran =
       let it = puts_pair 3 (owners_at 6) owners_keyed put_owner_text name user [] terms project 3 nothing_in tt (λ id. refl) (record {

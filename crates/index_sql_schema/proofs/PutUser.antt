@@ -38,7 +38,8 @@ is_plain : IsPlain (understood index_schema put_user_text)
 unfolding understood everything
 is_plain = (refl, refl)
 
-compiled : command_of (understood index_schema put_user_text) ≡ InsertOr 1 Abort (Values terms 4) (on_conflict 1 3 (1 ∷ []) (col 1 0 ∷ project) ∷ [])
+compiled : command_of (understood index_schema put_user_text)
+    ≡ InsertOr 1 Abort (Values terms 4) (on_conflict 1 3 (1 ∷ []) (col 1 0 ∷ project) ∷ [])
 unfolding understood everything
 compiled = refl
 
@@ -56,13 +57,16 @@ module _ (user : Bytes) (office : ℤ) (token : Bytes) where
   unfolding same_name joined
   no_works olds id = refl
 
-  becomes : (made : ℤ) (r : Row) → rowid r ≡ Int (rowid_in r) → column r 1 ≡ Text user → updated (users_at 1) cells project made r ≡ Int (rowid_in r) ∷ cells
+  becomes : (made : ℤ) (r : Row) → rowid r ≡ Int (rowid_in r) → column r 1 ≡ Text user
+      → updated (users_at 1) cells project made r ≡ Int (rowid_in r) ∷ cells
   becomes made r is_id is_key = rw (is_id, is_key, cast_int (rowid_in r), cast_int office) refl
 
-  pub puts : ((id : ℤ) → IsAccountRow (Int id ∷ cells)) → (old new : State) (count : ℕ) → IsIndex old.now → Executes put_user_text cells old new (Ok count)
+  pub puts : ((id : ℤ) → IsAccountRow (Int id ∷ cells)) → (old new : State) (count : ℕ) → IsIndex old.now
+      → Executes put_user_text cells old new (Ok count)
       → Changes (λ T. record T { users = insert T.users user (user_in (Int (pos 0) ∷ cells)) }) old.now new.now
   puts fits old new count h ran =
-      let it = puts_text 1 (users_at 1) users_keyed put_user_text user (Int office ∷ Blob token ∷ []) terms project 4 user_in (user_in (Int (pos 0) ∷ cells)) (λ id. refl) (record {
+      let it = puts_text 1 (users_at 1) users_keyed put_user_text user (Int office ∷ Blob token ∷ []) terms project 4 user_in
+      (user_in (Int (pos 0) ∷ cells)) (λ id. refl) (record {
         is_plain = is_plain;
         compiled = compiled;
         uncounted = refl;

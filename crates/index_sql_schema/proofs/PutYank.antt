@@ -38,7 +38,8 @@ is_plain : IsPlain (understood index_schema put_yank_text)
 unfolding understood everything
 is_plain = (refl, refl)
 
-compiled : command_of (understood index_schema put_yank_text) ≡ InsertOr 6 Abort (Values terms 4) (on_conflict 13 3 (1 ∷ 2 ∷ []) (col 1 0 ∷ project) ∷ [])
+compiled : command_of (understood index_schema put_yank_text)
+    ≡ InsertOr 6 Abort (Values terms 4) (on_conflict 13 3 (1 ∷ 2 ∷ []) (col 1 0 ∷ project) ∷ [])
 unfolding understood everything
 compiled = refl
 
@@ -56,13 +57,16 @@ module _ (name release reason : Bytes) where
   unfolding same_name joined
   no_works olds id = refl
 
-  becomes : (made : ℤ) (r : Row) → rowid r ≡ Int (rowid_in r) → column r 1 ≡ Text name → column r 2 ≡ Text release → updated (yanks_at 13) cells project made r ≡ Int (rowid_in r) ∷ cells
+  becomes : (made : ℤ) (r : Row) → rowid r ≡ Int (rowid_in r) → column r 1 ≡ Text name → column r 2 ≡ Text release
+      → updated (yanks_at 13) cells project made r ≡ Int (rowid_in r) ∷ cells
   becomes made r is_id is_first is_second = rw (is_id, is_first, is_second, cast_int (rowid_in r)) refl
 
-  pub puts : ((id : ℤ) → IsYankedRow (Int id ∷ cells)) → (old new : State) (count : ℕ) → IsIndex old.now → Executes put_yank_text cells old new (Ok count)
+  pub puts : ((id : ℤ) → IsYankedRow (Int id ∷ cells)) → (old new : State) (count : ℕ) → IsIndex old.now
+      → Executes put_yank_text cells old new (Ok count)
       → Changes (λ T. record T { yanks = insert T.yanks (name, release) reason }) old.now new.now
   puts fits old new count h ran =
-      let it = puts_pair 6 (yanks_at 13) yanks_keyed put_yank_text name release (Text reason ∷ []) terms project 4 reason_in reason (λ id. refl) (record {
+      let it = puts_pair 6 (yanks_at 13) yanks_keyed put_yank_text name release (Text reason ∷ []) terms project 4 reason_in reason
+      (λ id. refl) (record {
         is_plain = is_plain;
         compiled = compiled;
         uncounted = refl;

@@ -40,4 +40,7 @@ plan q = record { lets = []; body = q }
 
 -- ON CONFLICT (these places) DO UPDATE: the row that is there, found by the rowid that follows the parameters, becomes what the terms say
 abbrev pub on_conflict : ℕ → ℕ → List ℕ → List Term → Upsert
-on_conflict tree count places project = record { target = Some places; update = Some (plan (from_one tree (op2 (Compare Eq Binary) (col 1 0) (col 0 count) ∷ []) project [])) }
+on_conflict tree count places project = record {
+  target = Some places;
+  update = Some (plan (from_one tree (op2 (Compare Eq Binary) (col 1 0) (col 0 count) ∷ []) project []));
+}

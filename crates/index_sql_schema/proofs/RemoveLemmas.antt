@@ -37,7 +37,8 @@ no_works_15 olds = refl
 
 -- a row that loses its name sets off three deletions
 pub three_works : (r : Row) → loses plain (1 ∷ []) (r, []) ≡ true → works index_schema Enforced 0 4 (r ∷ []) []
-    ≡ deleting 0 (owners_at 6) to_names (1 ∷ []) plain ((r, []) ∷ []) ∷ deleting 0 (yanks_at 13) to_names (1 ∷ []) plain ((r, []) ∷ []) ∷ deleting 0 (cases_at 15) to_names (1 ∷ []) plain ((r, []) ∷ []) ∷ []
+    ≡ deleting 0 (owners_at 6) to_names (1 ∷ []) plain ((r, []) ∷ []) ∷ deleting 0 (yanks_at 13) to_names (1 ∷ []) plain ((r, []) ∷ [])
+    ∷ deleting 0 (cases_at 15) to_names (1 ∷ []) plain ((r, []) ∷ []) ∷ []
 unfolding same_name joined
 three_works r lost = rw lost refl
 
@@ -75,7 +76,8 @@ module _ (r : Row) where
       nothing_left [] w e = absurd (let f = e in cc)
       nothing_left (a ∷ more) w e = absurd (let f = e in cc)
 
-  one_left : (n : ℕ) (db next : Trees) → AreRows (db 6) → Leads index_schema Enforced n db (cascade (owners_at 6) ∷ []) (Ok next) → (next 6 ≡ delete_where (hit (owners_at 6)) (db 6)) × KeepsOthers 6 db next
+  one_left : (n : ℕ) (db next : Trees) → AreRows (db 6) → Leads index_schema Enforced n db (cascade (owners_at 6) ∷ []) (Ok next)
+      → (next 6 ≡ delete_where (hit (owners_at 6)) (db 6)) × KeepsOthers 6 db next
   one_left zero db next p h = absurd (let e = h.0 in cc)
   one_left (suc n) db next p h =
       let e = last_none h.0 h.1 _ h.2 in
@@ -84,13 +86,16 @@ module _ (r : Row) where
       let same = settled n did.0 next did.3 in
       (ap (λ (t : Trees). t 6) same ∙ did.1, subst (λ t. KeepsOthers 6 db t) (sym same) did.2)
 
-  two_left : (n : ℕ) (db next : Trees) → AreRows (db 6) → AreRows (db 13) → Leads index_schema Enforced n db (cascade (owners_at 6) ∷ cascade (yanks_at 13) ∷ []) (Ok next)
-      → (next 6 ≡ delete_where (hit (owners_at 6)) (db 6)) × (next 13 ≡ delete_where (hit (yanks_at 13)) (db 13)) × (mid : Trees) × KeepsOthers 13 db mid × KeepsOthers 6 mid next
+  two_left : (n : ℕ) (db next : Trees) → AreRows (db 6) → AreRows (db 13)
+      → Leads index_schema Enforced n db (cascade (owners_at 6) ∷ cascade (yanks_at 13) ∷ []) (Ok next)
+      → (next 6 ≡ delete_where (hit (owners_at 6)) (db 6)) × (next 13 ≡ delete_where (hit (yanks_at 13)) (db 13)) × (mid : Trees)
+      × KeepsOthers 13 db mid × KeepsOthers 6 mid next
   two_left zero db next p q h = absurd (let e = h.0 in cc)
   two_left (suc n) db next p q h =
       let e = last_one h.0 h.1 _ _ h.2 in
       let acts = subst₂ (λ b w. Acts index_schema Enforced (Leads index_schema Enforced n) db w b (Ok next)) e.0 e.1 h.3 in
-      let did = cascades index_schema Enforced 0 (yanks_at 13) to_names (1 ∷ []) plain ((r, []) ∷ []) refl no_works_13 n db next (cascade (owners_at 6) ∷ []) q acts in
+      let did = cascades index_schema Enforced 0 (yanks_at 13) to_names (1 ∷ []) plain ((r, []) ∷ []) refl no_works_13 n db next
+      (cascade (owners_at 6) ∷ []) q acts in
       let at6 : did.0 6 ≡ db 6 = did.2.1.1.1.0 (omega arith) in
       let rest = one_left n did.0 next (subst AreRows (sym at6) p) did.3 in
       let at13 : next 13 ≡ did.0 13 = rest.1.1.1.1.1.1.1.0 (omega arith) in
@@ -99,13 +104,15 @@ module _ (r : Row) where
   -- the three tables lose the rows of that name, and nothing else
   pub three_left : (n : ℕ) (db next : Trees) → AreRows (db 6) → AreRows (db 13) → AreRows (db 15)
       → Leads index_schema Enforced n db (cascade (owners_at 6) ∷ cascade (yanks_at 13) ∷ cascade (cases_at 15) ∷ []) (Ok next)
-      → (next 6 ≡ delete_where (hit (owners_at 6)) (db 6)) × (next 13 ≡ delete_where (hit (yanks_at 13)) (db 13)) × (next 15 ≡ delete_where (hit (cases_at 15)) (db 15))
+      → (next 6 ≡ delete_where (hit (owners_at 6)) (db 6)) × (next 13 ≡ delete_where (hit (yanks_at 13)) (db 13))
+      × (next 15 ≡ delete_where (hit (cases_at 15)) (db 15))
       × (next 0 ≡ db 0) × (next 1 ≡ db 1) × (next 4 ≡ db 4) × (next 8 ≡ db 8) × (next 11 ≡ db 11) × (next 17 ≡ db 17)
   three_left zero db next p q s h = absurd (let e = h.0 in cc)
   three_left (suc n) db next p q s h =
       let e = last_two h.0 h.1 _ _ _ h.2 in
       let acts = subst₂ (λ b w. Acts index_schema Enforced (Leads index_schema Enforced n) db w b (Ok next)) e.0 e.1 h.3 in
-      let did = cascades index_schema Enforced 0 (cases_at 15) to_names (1 ∷ []) plain ((r, []) ∷ []) refl no_works_15 n db next (cascade (owners_at 6) ∷ cascade (yanks_at 13) ∷ []) s acts in
+      let did = cascades index_schema Enforced 0 (cases_at 15) to_names (1 ∷ []) plain ((r, []) ∷ []) refl no_works_15 n db next
+      (cascade (owners_at 6) ∷ cascade (yanks_at 13) ∷ []) s acts in
       let at6 : did.0 6 ≡ db 6 = did.2.1.1.1.0 (omega arith) in
       let at13 : did.0 13 ≡ db 13 = did.2.1.1.1.1.1.1.0 (omega arith) in
       let rest = two_left n did.0 next (subst AreRows (sym at6) p) (subst AreRows (sym at13) q) did.3 in

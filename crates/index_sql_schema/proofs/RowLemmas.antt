@@ -1,5 +1,6 @@
 -- The map that rows stand for, by their keys, and after the rows were written.
-use Rattle.std.proofs.Common.{◌≡◌, ◌≤◌, Bool, true, false, cond, not, ◌&&◌, ◌||◌, List, [], ◌∷◌, ◌++◌, map, filter, find, length, slice_get, refl, sym, ap, ◌∙◌, Some, None, option_map, IsPermutation}
+use Rattle.std.proofs.Common.{◌≡◌, ◌≤◌, Bool, true, false, cond, not, ◌&&◌, ◌||◌, List, [], ◌∷◌, ◌++◌, map, filter, find, length, slice_get}
+use Rattle.std.proofs.Common.{refl, sym, ap, ◌∙◌, Some, None, option_map, IsPermutation}
 use Rattle.std.specs.List.{AllByRecursion, list_any}
 use Rattle.std.specs.Option.{option_map_or}
 use Rattle.std.specs.declared.cmp.Ordering.{Ordering}
@@ -38,7 +39,9 @@ module _ {A K X : Type 0} {R : K → K → Ordering} (total : IsTotalOrder R) (e
 
   find_entry : (rows : List A) (q : K) → fin.find R q (map entry rows) ≡ option_map value (find (is_at q) rows)
   find_entry [] q = refl
-  find_entry (r ∷ rows) q = elim (is_at q r) as (λ b. cond b (Some (value r)) (fin.find R q (map entry rows)) ≡ option_map value (cond b (Some r) (find (is_at q) rows))) [ true ↦ refl | false ↦ find_entry rows q ]
+  find_entry (r ∷ rows) q = elim (is_at q r) as
+      (λ b. cond b (Some (value r)) (fin.find R q (map entry rows)) ≡ option_map value (cond b (Some r) (find (is_at q) rows)))
+      [ true ↦ refl | false ↦ find_entry rows q ]
 
   -- a key answers the first row that has it
   pub get-map_from : (rows : List A) (q : K) → get (map_from {R = R} key value rows) q ≡ option_map value (find (is_at q) rows)
@@ -51,15 +54,19 @@ module _ {A K X : Type 0} {R : K → K → Ordering} (total : IsTotalOrder R) (e
   at_most_one q rows apart = one_passes _ (is_at q) rows (one_at q) apart
 
   -- the order of the rows does not matter
-  pub same_rows : (rows others : List A) → AreApart rows → IsPermutation rows others → map_from {R = R} key value rows ≡ map_from key value others
+  pub same_rows : (rows others : List A) → AreApart rows → IsPermutation rows others
+      → map_from {R = R} key value rows ≡ map_from key value others
   same_rows rows others apart p = same_map total exact _ _ (λ q.
-      let shorter = short_permutation (filter (is_at q) rows) (filter (is_at q) others) (at_most_one q rows apart) (IsPermutation-filter (is_at q) rows others p) in
+      let shorter = short_permutation (filter (is_at q) rows) (filter (is_at q) others) (at_most_one q rows apart)
+      (IsPermutation-filter (is_at q) rows others p) in
       get-map_from rows q
-      ∙ ap (option_map value) (sym (slice_get-filter (is_at q) rows) ∙ sym (ap (λ l. slice_get l 0) shorter) ∙ slice_get-filter (is_at q) others)
+      ∙ ap (option_map value) (sym (slice_get-filter (is_at q) rows) ∙ sym (ap (λ l. slice_get l 0) shorter)
+      ∙ slice_get-filter (is_at q) others)
       ∙ sym (get-map_from others q))
 
   -- the rows whose keys fail a test go
-  pub map_from-filter : (p : K → Bool) (rows : List A) → map_from {R = R} key value (filter (λ r. p (key r)) rows) ≡ retain_keys (map_from key value rows) p
+  pub map_from-filter : (p : K → Bool) (rows : List A)
+      → map_from {R = R} key value (filter (λ r. p (key r)) rows) ≡ retain_keys (map_from key value rows) p
   map_from-filter p rows = same_map total exact _ _ (λ q.
       get-from_entries total _ q
       ∙ ap (fin.find R q) (sym (filter-map (λ e. p e.0) entry rows))
@@ -68,34 +75,42 @@ module _ {A K X : Type 0} {R : K → K → Ordering} (total : IsTotalOrder R) (e
       ∙ sym (get-retain_keys (map_from key value rows) p q (λ x t. ap p (sym (exact q x t)))))
 
   -- the row at a key goes
-  pub map_from-delete : (k : K) (rows : List A) → map_from {R = R} key value (delete_where (is_at k) rows) ≡ remove (map_from key value rows) k
+  pub map_from-delete : (k : K) (rows : List A)
+      → map_from {R = R} key value (delete_where (is_at k) rows) ≡ remove (map_from key value rows) k
   map_from-delete k rows = map_from-filter (λ x. not (eq_by_cmp R k x)) rows ∙ retain_keys-other total exact (map_from key value rows) k
 
   -- one row in place of those with its key
-  pub map_from-put : (new : A) (rows : List A) → map_from {R = R} key value (new ∷ delete_where (is_at (key new)) rows) ≡ insert (map_from key value rows) (key new) (value new)
+  pub map_from-put : (new : A) (rows : List A)
+      → map_from {R = R} key value (new ∷ delete_where (is_at (key new)) rows) ≡ insert (map_from key value rows) (key new) (value new)
   map_from-put new rows =
       ap (λ m. insert m (key new) (value new)) (map_from-delete (key new) rows)
       ∙ insert-remove total exact (map_from key value rows) (key new) (value new)
 
-  apart_rest : (q : K) (r : A) (rows : List A) (P : X → Bool) → is_at q r ≡ true → AllByRecursion (λ b. eq_by_cmp R (key r) (key b) ≡ false) rows → list_any (λ b. is_at q b && P (value b)) rows ≡ false
+  apart_rest : (q : K) (r : A) (rows : List A) (P : X → Bool) → is_at q r ≡ true
+      → AllByRecursion (λ b. eq_by_cmp R (key r) (key b) ≡ false) rows → list_any (λ b. is_at q b && P (value b)) rows ≡ false
   apart_rest q r [] P here apart = refl
   apart_rest q r (b ∷ rows) P here apart = rw (one_at q r b apart.0 here) (apart_rest q r rows P here apart.1)
 
   -- some row has this key and passes exactly if the map has a value there that passes
-  pub any_at : (q : K) (P : X → Bool) (rows : List A) → AreApart rows → list_any (λ r. is_at q r && P (value r)) rows ≡ option_map_or P (get (map_from {R = R} key value rows) q) false
+  pub any_at : (q : K) (P : X → Bool) (rows : List A) → AreApart rows
+      → list_any (λ r. is_at q r && P (value r)) rows ≡ option_map_or P (get (map_from {R = R} key value rows) q) false
   any_at q P rows apart = any_found rows apart ∙ ap (λ o. option_map_or P o false) (sym (get-map_from rows q))
     where
-      any_found : (rows : List A) → AreApart rows → list_any (λ r. is_at q r && P (value r)) rows ≡ option_map_or P (option_map value (find (is_at q) rows)) false
+      any_found : (rows : List A) → AreApart rows
+          → list_any (λ r. is_at q r && P (value r)) rows ≡ option_map_or P (option_map value (find (is_at q) rows)) false
       any_found [] apart = refl
       any_found (r ∷ rows) apart = go (is_at q r) refl (any_found rows apart.1)
         where
-          go : (b : Bool) → is_at q r ≡ b → list_any (λ r. is_at q r && P (value r)) rows ≡ option_map_or P (option_map value (find (is_at q) rows)) false
-              → ((b && P (value r)) || list_any (λ r. is_at q r && P (value r)) rows) ≡ option_map_or P (option_map value (cond b (Some r) (find (is_at q) rows))) false
+          go : (b : Bool) → is_at q r ≡ b → list_any (λ r. is_at q r && P (value r)) rows
+              ≡ option_map_or P (option_map value (find (is_at q) rows)) false
+              → ((b && P (value r)) || list_any (λ r. is_at q r && P (value r)) rows)
+              ≡ option_map_or P (option_map value (cond b (Some r) (find (is_at q) rows))) false
           go true here more = rw (apart_rest q r rows P here apart.0) (or_false (P (value r)))
           go false here more = more
 
 -- the values of some rows change, and the keys stay
-module _ {A X : Type 0} (key : A → Bytes) (value : A → X) (p : A → Bool) (f : A → A) (change : X → X) (keeps : (r : A) → key (f r) ≡ key r) (does : (r : A) → value (cond (p r) (f r) r) ≡ change (value r)) where
+module _ {A X : Type 0} (key : A → Bytes) (value : A → X) (p : A → Bool) (f : A → A) (change : X → X) (keeps : (r : A)
+    → key (f r) ≡ key r) (does : (r : A) → value (cond (p r) (f r) r) ≡ change (value r)) where
   key_stays : (b : Bool) (r : A) → key (cond b (f r) r) ≡ key r
   key_stays true r = keeps r
   key_stays false r = refl
@@ -103,16 +118,20 @@ module _ {A X : Type 0} (key : A → Bytes) (value : A → X) (p : A → Bool) (
   abbrev has_key : Bytes → A → Bool
   has_key q r = eq_by_cmp bytes_cmp q (key r)
 
-  found_changed : (q : Bytes) (rows : List A) → option_map value (find (has_key q) (update_where p f rows)) ≡ option_map change (option_map value (find (has_key q) rows))
+  found_changed : (q : Bytes) (rows : List A) → option_map value (find (has_key q) (update_where p f rows))
+      ≡ option_map change (option_map value (find (has_key q) rows))
   found_changed q [] = refl
   found_changed q (r ∷ rows) = rw (key_stays (p r) r) (go (has_key q r) (found_changed q rows))
     where
-      go : (b : Bool) → option_map value (find (has_key q) (update_where p f rows)) ≡ option_map change (option_map value (find (has_key q) rows))
-          → option_map value (cond b (Some (cond (p r) (f r) r)) (find (has_key q) (update_where p f rows))) ≡ option_map change (option_map value (cond b (Some r) (find (has_key q) rows)))
+      go : (b : Bool) → option_map value (find (has_key q) (update_where p f rows))
+          ≡ option_map change (option_map value (find (has_key q) rows))
+          → option_map value (cond b (Some (cond (p r) (f r) r)) (find (has_key q) (update_where p f rows)))
+          ≡ option_map change (option_map value (cond b (Some r) (find (has_key q) rows)))
       go true more = ap Some (does r)
       go false more = more
 
-  pub map_from-update : (rows : List A) → map_from {R = bytes_cmp} key value (update_where p f rows) ≡ change_values change (map_from key value rows)
+  pub map_from-update : (rows : List A) → map_from {R = bytes_cmp} key value (update_where p f rows)
+      ≡ change_values change (map_from key value rows)
   map_from-update rows = same_map nat_list_cmp_total exact_bytes _ _ (λ q.
       get-map_from nat_list_cmp_total exact_bytes key value (update_where p f rows) q
       ∙ found_changed q rows
@@ -120,11 +139,14 @@ module _ {A X : Type 0} (key : A → Bytes) (value : A → X) (p : A → Bool) (
       ∙ sym (get-change_values change (map_from key value rows) q))
 
 -- an update moves no row but within the list
-pub split_update : {A : Type 0} (p : A → Bool) (f : A → A) (rows : List A) → IsPermutation (map f (filter p rows) ++ delete_where p rows) (update_where p f rows)
+pub split_update : {A : Type 0} (p : A → Bool) (f : A → A) (rows : List A)
+    → IsPermutation (map f (filter p rows) ++ delete_where p rows) (update_where p f rows)
 split_update p f [] = IsPermutation-refl []
 split_update p f (r ∷ rows) = go (p r) (split_update p f rows)
   where
     go : (b : Bool) → IsPermutation (map f (filter p rows) ++ delete_where p rows) (update_where p f rows)
-        → IsPermutation (map f (cond b (r ∷ filter p rows) (filter p rows)) ++ cond (not b) (r ∷ delete_where p rows) (delete_where p rows)) (cond b (f r) r ∷ update_where p f rows)
+        → IsPermutation (map f (cond b (r ∷ filter p rows) (filter p rows)) ++ cond (not b) (r ∷ delete_where p rows) (delete_where p rows))
+        (cond b (f r) r ∷ update_where p f rows)
     go true more = IsPermutation-cons (f r) _ _ more
-    go false more = IsPermutation-trans _ _ _ (IsPermutation-middle (map f (filter p rows)) r (delete_where p rows)) (IsPermutation-cons r _ _ more)
+    go false more = IsPermutation-trans _ _ _ (IsPermutation-middle (map f (filter p rows)) r (delete_where p rows))
+        (IsPermutation-cons r _ _ more)

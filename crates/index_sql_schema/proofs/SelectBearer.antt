@@ -1,5 +1,6 @@
 -- SELECT FROM users by the token: who bears it.
-use Rattle.std.proofs.Common.{◌≡◌, Bool, true, false, List, [], ◌∷◌, codes, map, filter, slice_get, option_map, inl, refl, sym, subst, ◌∙◌, IsPermutation, arith}
+use Rattle.std.proofs.Common.{◌≡◌, Bool, true, false, List, [], ◌∷◌, codes, map, filter, slice_get, option_map, inl, refl, sym, subst, ◌∙◌}
+use Rattle.std.proofs.Common.{IsPermutation, arith}
 use Rattle.std.specs.List.{list_all}
 use Rattle.std.proofs.lemmas.Cmp.{nat_list_cmp_total}
 use Rattle.std.proofs.lemmas.List.Sorted.{IsPermutation-sym}
@@ -41,7 +42,12 @@ project = col 1 0 ∷ col 1 1 ∷ col 1 2 ∷ col 1 3 ∷ []
 
 pub shown : Selects (users_at 1) select_bearer_text (is_param 3 0 ∷ []) project
 unfolding understood everything
-shown = record { names = codes "rowid" ∷ codes "user" ∷ codes "office" ∷ codes "token" ∷ []; compiled = refl; is_plain = (refl, refl); unlisted = refl }
+shown = record {
+  names = codes "rowid" ∷ codes "user" ∷ codes "office" ∷ codes "token" ∷ [];
+  compiled = refl;
+  is_plain = (refl, refl);
+  unlisted = refl;
+}
 
 module _ (token : Bytes) where
   abbrev bears : Row → Bool
@@ -51,7 +57,8 @@ module _ (token : Bytes) where
   tested r is = last_term (blob_test (Blob token ∷ []) 3 0 r token refl is ∙ same-turned (bytes (column r 3)) token)
 
   -- the first of the rows found, or nobody
-  bearer_is : (db : Database) → IsIndex db → (found : List Row) → IsPermutation (filter bears (db.trees 1)) found → IsBearer (tables_in db.trees) token (option_map account_in (slice_get found 0))
+  bearer_is : (db : Database) → IsIndex db → (found : List Row) → IsPermutation (filter bears (db.trees 1)) found
+      → IsBearer (tables_in db.trees) token (option_map account_in (slice_get found 0))
   bearer_is db h [] none = λ user account has.
       let it = row_at_key nat_list_cmp_total exact_bytes text_key user_in 1 users_keyed.apart db user account has in
       subst (λ (it : UserRecord). same token it.token ≡ false) it.3 (unborne it.0 it.1)
@@ -68,12 +75,15 @@ module _ (token : Bytes) where
       (get_row nat_list_cmp_total exact_bytes text_key user_in 1 users_keyed.apart db h r it.0, it.1)
 
   found_with : (old new : State) (rows : List Row) → IsIndex old.now → Shown select_bearer_text (Blob token ∷ []) old new rows
-      → (found : List Row) × IsPermutation (filter bears (old.now.trees 1)) found × (rows ≡ map (λ r. eval_all project ((Blob token ∷ []) ∷ r ∷ [])) found)
+      → (found : List Row) × IsPermutation (filter bears (old.now.trees 1)) found
+      × (rows ≡ map (λ r. eval_all project ((Blob token ∷ []) ∷ r ∷ [])) found)
   found_with old new rows h ran =
       let params = Blob token ∷ [] in
-      let answer = reads_as select_bearer_text params old new index_schema h.schema _ shown.compiled shown.is_plain shown.unlisted rows ran in
+      let answer = reads_as select_bearer_text params old new index_schema h.schema _ shown.compiled shown.is_plain shown.unlisted rows ran
+      in
       let tokens = blobs 1 (users_at 1) refl old.now h refl 2 _ refl refl refl refl in
-      let tests = all_weaker (IsBlob 3) (λ r. list_all (holds (params ∷ r ∷ [])) (is_param 3 0 ∷ []) ≡ bears r) tested (old.now.trees 1) tokens in
+      let tests = all_weaker (IsBlob 3) (λ r. list_all (holds (params ∷ r ∷ [])) (is_param 3 0 ∷ []) ≡ bears r) tested (old.now.trees 1)
+      tokens in
       answered 1 (users_at 1) refl (λ db. refl) params (is_param 3 0 ∷ []) project bears old.now.trees rows tests (answer.answer Null)
 
   pub selects : (old new : State) (rows : List Row) → IsIndex old.now → Shown select_bearer_text (Blob token ∷ []) old new rows
@@ -84,11 +94,23 @@ module _ (token : Bytes) where
       subst (IsBearer (tables_in old.now.trees) token) (sym first) (bearer_is old.now h found.0 found.1)
 
   -- the rows that it shows are those of records
-  pub records : (old new : State) (rows : List Row) → IsIndex old.now → Shown select_bearer_text (Blob token ∷ []) old new rows → AllByRecursion IsAccountRow (old.now.trees 1) → AllByRecursion IsAccountRow rows
+  pub records : (old new : State) (rows : List Row) → IsIndex old.now → Shown select_bearer_text (Blob token ∷ []) old new rows
+      → AllByRecursion IsAccountRow (old.now.trees 1) → AllByRecursion IsAccountRow rows
   records old new rows h ran all =
       let found = found_with old new rows h ran in
-      shown_all IsAccountRow IsAccountRow (λ r. eval_all project ((Blob token ∷ []) ∷ r ∷ [])) account_shown bears (old.now.trees 1) found.0 rows found.1 found.2 all
+      shown_all IsAccountRow IsAccountRow (λ r. eval_all project ((Blob token ∷ []) ∷ r ∷ [])) account_shown bears (old.now.trees 1)
+      found.0 rows found.1 found.2 all
 
 pub sure : (token : Bytes) → IsSure select_bearer_text (Blob token ∷ [])
 unfolding understood everything IsSure
-sure token = ((omega arith, refl, refl, refl, readable_one 1 (is_param 3 0 ∷ []) project [] (codes "rowid" ∷ codes "user" ∷ codes "office" ∷ codes "token" ∷ []) (Blob token ∷ []) refl), refl)
+sure token = (
+  (
+    omega arith,
+    refl,
+    refl,
+    refl,
+    readable_one 1 (is_param 3 0 ∷ []) project []
+        (codes "rowid" ∷ codes "user" ∷ codes "office" ∷ codes "token" ∷ []) (Blob token ∷ []) refl,
+  ),
+  refl,
+)

@@ -63,21 +63,29 @@ unfolding understood everything IsSure
 sure = ((omega arith, refl, refl, refl, readable_one 11 [] project (by_column 1) headings [] refl), refl)
 
 -- the rows that it shows are those of records
-pub records : (old new : State) (rows : List Row) → IsIndex old.now → AreRecords old.now → Shown select_bodies_text [] old new rows → AllByRecursion IsStoredRow rows
+pub records : (old new : State) (rows : List Row) → IsIndex old.now → AreRecords old.now → Shown select_bodies_text [] old new rows
+    → AllByRecursion IsStoredRow rows
 records old new rows h are shown =
     let rs = old.now.trees 11 in
     let answer = reads_as select_bodies_text [] old new index_schema h.schema _ compiled is_plain unlisted rows shown in
-    read_all 11 end [] project (by_column 1) (overlay old.now.trees []) [] (λ r. [] ∷ r ∷ []) (λ r. true) (all_of _ (λ r. refl) rs) (all_of _ (λ r. refl) rs) IsStoredRow IsStoredRow (λ r it. record { file = it.file; body = it.body }) rows (answer.answer Null)
+    read_all 11 end [] project (by_column 1) (overlay old.now.trees []) [] (λ r. [] ∷ r ∷ []) (λ r. true) (all_of _ (λ r. refl) rs)
+    (all_of _ (λ r. refl) rs) IsStoredRow IsStoredRow (λ r it. record { file = it.file; body = it.body }) rows (answer.answer Null)
     (known_records old.now h are).1.1.1.1.1.0
 
-pub selects : (old new : State) (rows : List Row) → IsIndex old.now → Shown select_bodies_text [] old new rows → map stored_in rows ≡ entries (tables_in old.now.trees).bodies
+pub selects : (old new : State) (rows : List Row) → IsIndex old.now → Shown select_bodies_text [] old new rows
+    → map stored_in rows ≡ entries (tables_in old.now.trees).bodies
 selects old new rows h shown =
     let rs = old.now.trees 11 in
     let passes : Bytes × Bytes → Bool = λ e. true in
     let answer = reads_as select_bodies_text [] old new index_schema h.schema _ compiled is_plain unlisted rows shown in
-    let keyed = all_weaker (IsText 1) (λ r. eval_all (col 1 1 ∷ []) ([] ∷ r ∷ []) ≡ Text (text_key r) ∷ []) (λ r t. ap (λ v. v ∷ []) t) rs (blobs_keyed.texts old.now h) in
-    let found = listed 11 end [] project 1 (overlay old.now.trees []) [] (λ r. [] ∷ r ∷ []) (λ r. true) (all_of _ (λ r. refl) rs) (all_of _ (λ r. refl) rs) stored_in (λ (row : Bytes × Bytes). row.0) keyed rows (answer.answer Null) in
-    let order = subst (λ l. IsPermutation l (map stored_in rows)) (sym (ap (map stored_of) (filter-map passes (λ r. (text_key r, body_in r)) rs) ∙ map-map stored_of (λ r. (text_key r, body_in r)) _)) found.0 in
-    sorted_entries nat_list_cmp_total exact_bytes text_key body_in passes stored_of (λ (row : Bytes × Bytes). row.0) (λ e. refl) rs (map stored_in rows) (blobs_keyed.apart old.now h) order found.1
+    let keyed = all_weaker (IsText 1) (λ r. eval_all (col 1 1 ∷ []) ([] ∷ r ∷ []) ≡ Text (text_key r) ∷ []) (λ r t. ap (λ v. v ∷ []) t) rs
+    (blobs_keyed.texts old.now h) in
+    let found = listed 11 end [] project 1 (overlay old.now.trees []) [] (λ r. [] ∷ r ∷ []) (λ r. true) (all_of _ (λ r. refl) rs)
+    (all_of _ (λ r. refl) rs) stored_in (λ (row : Bytes × Bytes). row.0) keyed rows (answer.answer Null) in
+    let order = subst (λ l. IsPermutation l (map stored_in rows))
+    (sym (ap (map stored_of) (filter-map passes (λ r. (text_key r, body_in r)) rs)
+    ∙ map-map stored_of (λ r. (text_key r, body_in r)) _)) found.0 in
+    sorted_entries nat_list_cmp_total exact_bytes text_key body_in passes stored_of (λ (row : Bytes × Bytes). row.0) (λ e. refl) rs
+    (map stored_in rows) (blobs_keyed.apart old.now h) order found.1
     ∙ ap (map stored_of) (filter_all passes (entries (tables_in old.now.trees).bodies) (all_of _ (λ e. refl) _))
     ∙ same_stored (entries (tables_in old.now.trees).bodies)

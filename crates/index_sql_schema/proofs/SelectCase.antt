@@ -22,10 +22,12 @@ use Rattle.index_sql_schema.proofs.SureLemmas.{readable_one}
 use Rattle.index_sql_schema.proofs.ShownRecords.{case_shown}
 
 abbrev project : List Term
-project = col 1 0 ∷ col 1 1 ∷ col 1 2 ∷ col 1 3 ∷ col 1 4 ∷ col 1 5 ∷ col 1 6 ∷ col 1 7 ∷ col 1 8 ∷ col 1 9 ∷ col 1 10 ∷ col 1 11 ∷ col 1 12 ∷ col 1 13 ∷ []
+project = col 1 0 ∷ col 1 1 ∷ col 1 2 ∷ col 1 3 ∷ col 1 4 ∷ col 1 5 ∷ col 1 6 ∷ col 1 7 ∷ col 1 8 ∷ col 1 9 ∷ col 1 10 ∷ col 1 11 ∷ col 1 12
+    ∷ col 1 13 ∷ []
 
 abbrev headings : List (List ℕ)
-headings = codes "rowid" ∷ codes "name" ∷ codes "kind" ∷ codes "candidate" ∷ codes "contact" ∷ codes "work" ∷ codes "why" ∷ codes "opened" ∷ codes "attempts" ∷ codes "sent" ∷ codes "profile" ∷ codes "author" ∷ codes "pages" ∷ codes "first_sent" ∷ []
+headings = codes "rowid" ∷ codes "name" ∷ codes "kind" ∷ codes "candidate" ∷ codes "contact" ∷ codes "work" ∷ codes "why" ∷ codes "opened" ∷
+    codes "attempts" ∷ codes "sent" ∷ codes "profile" ∷ codes "author" ∷ codes "pages" ∷ codes "first_sent" ∷ []
 
 pub shown : Selects (cases_at 15) select_case_text (is_param 1 0 ∷ []) project
 unfolding understood everything

@@ -25,7 +25,8 @@ abbrev project : List Term
 project = col 1 0 ∷ col 1 1 ∷ col 1 2 ∷ col 1 3 ∷ col 1 4 ∷ col 1 5 ∷ col 1 6 ∷ col 1 7 ∷ []
 
 abbrev headings : List (List ℕ)
-headings = codes "rowid" ∷ codes "name" ∷ codes "state" ∷ codes "shown" ∷ codes "quota" ∷ codes "charged" ∷ codes "live" ∷ codes "last_upload" ∷ []
+headings = codes "rowid" ∷ codes "name" ∷ codes "state" ∷ codes "shown" ∷ codes "quota" ∷ codes "charged" ∷ codes "live" ∷ codes
+    "last_upload" ∷ []
 
 pub shown : Selects (names_at 4) select_name_text (is_param 1 0 ∷ []) project
 unfolding understood everything

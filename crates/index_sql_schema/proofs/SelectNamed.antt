@@ -1,5 +1,6 @@
 -- SELECT file FROM files by name: the files of the name, the deleted ones too.
-use Rattle.std.proofs.Common.{◌≡◌, arith, IsPermutation, Bool, true, false, ◌&&◌, ◌||◌, cond, List, [], ◌∷◌, codes, filter, map, refl, sym, ap, ap₂, ◌∙◌}
+use Rattle.std.proofs.Common.{◌≡◌, arith, IsPermutation, Bool, true, false, ◌&&◌, ◌||◌, cond, List, [], ◌∷◌, codes, filter, map, refl, sym}
+use Rattle.std.proofs.Common.{ap, ap₂, ◌∙◌}
 use Rattle.std.specs.List.{AllByRecursion, list_all, list_any}
 use Rattle.std.proofs.lemmas.Cmp.{nat_list_cmp_total}
 use Rattle.std.proofs.lemmas.List.Sorted.{list_any-IsPermutation}
@@ -46,7 +47,8 @@ pub is_plain : IsPlain (understood index_schema select_named_text)
 is_plain = shown.is_plain
 
 -- some row that is kept passes if some row passes and is kept
-one_more : {A : Type 0} (p : A → Bool) (x : A) (kept passes : Bool) (xs : List A) (rest : Bool) → p x ≡ passes → list_any p xs ≡ rest → list_any p (cond kept (x ∷ xs) xs) ≡ ((passes && kept) || rest)
+one_more : {A : Type 0} (p : A → Bool) (x : A) (kept passes : Bool) (xs : List A) (rest : Bool) → p x ≡ passes → list_any p xs ≡ rest
+    → list_any p (cond kept (x ∷ xs) xs) ≡ ((passes && kept) || rest)
 one_more p x true true xs rest here is = ap₂ (λ a b. a || b) here is
 one_more p x true false xs rest here is = ap₂ (λ a b. a || b) here is
 one_more p x false true xs rest here is = is
@@ -74,15 +76,19 @@ module _ (name : Bytes) where
   tested r is = last_term (text_test params 2 0 r name refl is ∙ same-turned (bytes (column r 2)) name)
 
   found_named : (old new : State) (rows : List Row) → IsIndex old.now → Shown select_named_text params old new rows
-      → (found : List Row) × IsPermutation (filter owns (old.now.trees 8)) found × (rows ≡ map (λ r. eval_all (col 1 1 ∷ []) (params ∷ r ∷ [])) found)
+      → (found : List Row) × IsPermutation (filter owns (old.now.trees 8)) found
+      × (rows ≡ map (λ r. eval_all (col 1 1 ∷ []) (params ∷ r ∷ [])) found)
   found_named old new rows h ran =
       let rs = old.now.trees 8 in
-      let answer = reads_as select_named_text params old new index_schema h.schema _ shown.compiled shown.is_plain shown.unlisted rows ran in
+      let answer = reads_as select_named_text params old new index_schema h.schema _ shown.compiled shown.is_plain shown.unlisted rows ran
+      in
       let names = texts 4 (files_at 8) refl old.now h refl 1 _ refl refl refl refl in
-      answered 4 (files_at 8) refl (λ db. refl) params tests (col 1 1 ∷ []) owns old.now.trees rows (all_weaker (IsText 2) (λ r. list_all (holds (params ∷ r ∷ [])) tests ≡ owns r) tested rs names) (answer.answer Null)
+      answered 4 (files_at 8) refl (λ db. refl) params tests (col 1 1 ∷ []) owns old.now.trees rows
+      (all_weaker (IsText 2) (λ r. list_all (holds (params ∷ r ∷ [])) tests ≡ owns r) tested rs names) (answer.answer Null)
 
   -- what is known of the file in each row of the table is known of those that are shown
-  pub records : (P Q : Row → Type 0) → ((r : Row) → P r → Q (column r 1 ∷ [])) → (old new : State) (rows : List Row) → IsIndex old.now → Shown select_named_text params old new rows
+  pub records : (P Q : Row → Type 0) → ((r : Row) → P r → Q (column r 1 ∷ [])) → (old new : State) (rows : List Row) → IsIndex old.now
+      → Shown select_named_text params old new rows
       → AllByRecursion P (old.now.trees 8) → AllByRecursion Q rows
   records P Q keeps old new rows h ran all =
       let found = found_named old new rows h ran in
@@ -99,4 +105,5 @@ module _ (name : Bytes) where
       ∙ sym (list_any-IsPermutation (λ r. same file (text_key r)) (filter owns rs) found.0 found.1)
       ∙ list_any-filter (λ r. same file (text_key r)) owns rs
       ∙ list_any-same _ _ (λ r. ap (λ b. b && owns r) (sym (is_eq-slice_cmp file (text_key r)))) rs
-      ∙ any_at nat_list_cmp_total exact_bytes text_key file_in file (λ (known : FileRecord). same name known.project) rs (files_keyed.apart old.now h)
+      ∙ any_at nat_list_cmp_total exact_bytes text_key file_in file (λ (known : FileRecord). same name known.project) rs
+      (files_keyed.apart old.now h)

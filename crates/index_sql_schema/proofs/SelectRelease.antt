@@ -1,5 +1,6 @@
 -- SELECT FROM files by name and release: whether the release has an undeleted file.
-use Rattle.std.proofs.Common.{◌≡◌, ◌==◌, Bool, true, false, ◌&&◌, ◌||◌, cond, List, [], ◌∷◌, codes, filter, map, slice_get, take, is_some, refl, sym, ap, ap₂, ◌∙◌, arith}
+use Rattle.std.proofs.Common.{◌≡◌, ◌==◌, Bool, true, false, ◌&&◌, ◌||◌, cond, List, [], ◌∷◌, codes, filter, map, slice_get, take, is_some}
+use Rattle.std.proofs.Common.{refl, sym, ap, ap₂, ◌∙◌, arith}
 use Rattle.std.specs.List.{list_all, list_any}
 use Rattle.std.specs.FinMap.{entries}
 use Rattle.std.proofs.lemmas.Cmp.{nat_list_cmp_total}
@@ -55,10 +56,20 @@ first_is [] = refl
 first_is (x ∷ xs) = refl
 
 first_shown : (db : Trees) (params : Row) (rows : List Row) → IsAnswer (first_from 8 tests (col 1 0 ∷ [])) db params rows
-    → (all : List Row) × IsAnswer (from_one 8 tests (col 1 0 ∷ []) []) db params all × (is_some (slice_get rows 0) ≡ is_some (slice_get all 0))
+    → (all : List Row) × IsAnswer (from_one 8 tests (col 1 0 ∷ []) []) db params all
+    × (is_some (slice_get rows 0) ≡ is_some (slice_get all 0))
 first_shown db params rows a = (
   map (λ (o : Output). o.1) a.ordered,
-  record { staged = a.staged; grouped = a.grouped; kept = a.kept; distinct = a.distinct; ordered = a.ordered; same = a.same; sorted = a.sorted; shown = refl },
+  record {
+    staged = a.staged;
+    grouped = a.grouped;
+    kept = a.kept;
+    distinct = a.distinct;
+    ordered = a.ordered;
+    same = a.same;
+    sorted = a.sorted;
+    shown = refl;
+  },
   ap (λ l. is_some (slice_get l 0)) a.shown ∙ first_is (map (λ (o : Output). o.1) a.ordered),
 )
 
@@ -73,7 +84,8 @@ list_any-map p f (x ∷ xs) = ap (λ b. p (f x) || b) (list_any-map p f xs)
 
 list_any-filter : {A : Type 0} (p : A → Bool) (xs : List A) → list_any (λ _. true) (filter p xs) ≡ list_any p xs
 list_any-filter p [] = refl
-list_any-filter p (x ∷ xs) = elim (p x) as (λ b. list_any (λ _. true) (cond b (x ∷ filter p xs) (filter p xs)) ≡ (b || list_any p xs)) [ true ↦ refl | false ↦ list_any-filter p xs ]
+list_any-filter p (x ∷ xs) = elim (p x) as (λ b. list_any (λ _. true) (cond b (x ∷ filter p xs) (filter p xs)) ≡ (b || list_any p xs))
+    [ true ↦ refl | false ↦ list_any-filter p xs ]
 
 regrouped : (a b c : Bool) → (a && (b && c)) ≡ ((a && b) && c)
 regrouped true b c = refl
@@ -95,7 +107,8 @@ module _ (name release : Bytes) where
   tested : (r : Row) → IsRow r → list_all (holds (params ∷ r ∷ [])) tests ≡ passes r
   tested r is =
       ap₂ (λ a b. a && b) (number_test params 7 0 r is.live)
-      (ap₂ (λ a b. a && b) (text_test params 2 0 r name refl is.name ∙ same-turned (bytes (column r 2)) name) (last_term (text_test params 3 1 r release refl is.release ∙ same-turned (bytes (column r 3)) release)))
+      (ap₂ (λ a b. a && b) (text_test params 2 0 r name refl is.name ∙ same-turned (bytes (column r 2)) name)
+      (last_term (text_test params 3 1 r release refl is.release ∙ same-turned (bytes (column r 3)) release)))
       ∙ regrouped (number_in (column r 7) == 1) (same name (bytes (column r 2))) (same release (bytes (column r 3)))
 
   pub selects : (old new : State) (rows : List Row) → IsIndex old.now → Shown select_release_text params old new rows
@@ -109,7 +122,8 @@ module _ (name release : Bytes) where
       let both = all_both (IsText 2) (IsText 3) (λ r. IsText 2 r × IsText 3 r) (λ r a b. (a, b)) rs names releases in
       let all = all_both _ (IsNumber 7) IsRow (λ r t n. record { name = t.0; release = t.1; live = n }) rs both lives in
       let one = first_shown (overlay old.now.trees []) params rows (answer.answer Null) in
-      let found = answered 4 (files_at 8) refl (λ db. refl) params tests (col 1 0 ∷ []) passes old.now.trees one.0 (all_weaker IsRow (λ r. list_all (holds (params ∷ r ∷ [])) tests ≡ passes r) tested rs all) one.1 in
+      let found = answered 4 (files_at 8) refl (λ db. refl) params tests (col 1 0 ∷ []) passes old.now.trees one.0
+      (all_weaker IsRow (λ r. list_all (holds (params ∷ r ∷ [])) tests ≡ passes r) tested rs all) one.1 in
       let entered = entries_permutation nat_list_cmp_total exact_bytes text_key file_in rs (files_keyed.apart old.now h) in
       one.2 ∙ ap (λ l. is_some (slice_get l 0)) found.2
       ∙ first_any (map (λ r. eval_all (col 1 0 ∷ []) (params ∷ r ∷ [])) found.0)
@@ -121,4 +135,13 @@ module _ (name release : Bytes) where
 
 pub sure : (name release : Bytes) → IsSure select_release_text (Text name ∷ Text release ∷ [])
 unfolding understood everything IsSure
-sure name release = ((omega arith, refl, refl, refl, readable_first 8 tests (col 1 0 ∷ []) (codes "rowid" ∷ []) (Text name ∷ Text release ∷ []) refl), refl)
+sure name release = (
+  (
+    omega arith,
+    refl,
+    refl,
+    refl,
+    readable_first 8 tests (col 1 0 ∷ []) (codes "rowid" ∷ []) (Text name ∷ Text release ∷ []) refl,
+  ),
+  refl,
+)

@@ -42,4 +42,5 @@ sure user = ((omega arith, refl, refl, refl, readable_one 1 (is_param 1 0 ∷ []
 -- the rows that it shows are those of records
 pub records : (user : Bytes) (old new : State) (rows : List Row) → IsIndex old.now → Shown select_user_text (Text user ∷ []) old new rows
     → AllByRecursion IsAccountRow (old.now.trees 1) → AllByRecursion IsUserRow rows
-records = shows_text 1 (users_at 1) users_keyed select_user_text project shown IsAccountRow IsUserRow (λ params r it. user_shown r it.account)
+records = shows_text 1 (users_at 1) users_keyed select_user_text project shown IsAccountRow IsUserRow
+    (λ params r it. user_shown r it.account)

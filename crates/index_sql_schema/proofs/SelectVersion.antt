@@ -60,20 +60,27 @@ is_plain db (inl h) = subst (λ s. IsPlain (understood s select_version_text)) (
 is_plain db (inr h) = subst (λ s. IsPlain (understood s select_version_text)) (sym h.schema) looks_first.is_plain
 
 tested : (r : Row) → IsText 2 r → HasRowid r → list_all (holds ([] ∷ r ∷ [])) tests ≡ is_version r
-tested r is whole = rw (is, as_int (rowid r) whole) (ap₂ (λ a b. a && b) (at_ints false Eq (rowid_in r) (pos 1)) (last_term (at_texts false Eq (bytes (column r 2)) (codes "python-index") ∙ is_eq-slice_cmp (bytes (column r 2)) (codes "python-index"))))
+tested r is whole = rw (is, as_int (rowid r) whole)
+    (ap₂ (λ a b. a && b) (at_ints false Eq (rowid_in r) (pos 1))
+    (last_term (at_texts false Eq (bytes (column r 2)) (codes "python-index")
+    ∙ is_eq-slice_cmp (bytes (column r 2)) (codes "python-index"))))
 
-selects_by : (schema : Schema) → Looks schema → (old new : State) (rows : List Row) → old.now.schema ≡ schema → IsDatabase old.now → AreRows (old.now.trees 0)
+selects_by : (schema : Schema) → Looks schema → (old new : State) (rows : List Row) → old.now.schema ≡ schema → IsDatabase old.now
+    → AreRows (old.now.trees 0)
     → Shown select_version_text [] old new rows → option_map (λ r. number_in (column r 0)) (slice_get rows 0) ≡ version_in old.now.trees
 selects_by schema it old new rows has sound are shown =
     let db = old.now.trees in
     let read = reads_as select_version_text [] old new schema has _ it.compiled it.is_plain it.unlisted rows shown in
-    let same = all_both (IsText 2) HasRowid (λ r. list_all (holds ([] ∷ r ∷ [])) tests ≡ is_version r) tested (db 0) (kind_texts schema it.first old.now has sound) are.1 in
+    let same = all_both (IsText 2) HasRowid (λ r. list_all (holds ([] ∷ r ∷ [])) tests ≡ is_version r) tested (db 0)
+    (kind_texts schema it.first old.now has sound) are.1 in
     let found = answered 0 (meta_at 0) refl (λ d. refl) [] tests (col 1 3 ∷ []) is_version db rows same (read.answer Null) in
-    first_shown (λ r. number_in (column r 0)) (λ r. number_in (column r 3)) (λ r. eval_all (col 1 3 ∷ []) ([] ∷ r ∷ [])) (λ r. refl) found.0 rows found.2
+    first_shown (λ r. number_in (column r 0)) (λ r. number_in (column r 3)) (λ r. eval_all (col 1 3 ∷ []) ([] ∷ r ∷ [])) (λ r. refl)
+    found.0 rows found.2
     ∙ ap (λ l. option_map (λ r. number_in (column r 3)) (slice_get l 0)) (short_permutation _ found.0 (one_version (db 0) are) found.1)
     ∙ ap (option_map (λ r. number_in (column r 3))) (slice_get-filter is_version (db 0))
 
 -- the first row of the answer has the version
-pub selects : (old new : State) (rows : List Row) → IsAnyVersion old.now → Shown select_version_text [] old new rows → option_map (λ r. number_in (column r 0)) (slice_get rows 0) ≡ version_in old.now.trees
+pub selects : (old new : State) (rows : List Row) → IsAnyVersion old.now → Shown select_version_text [] old new rows
+    → option_map (λ r. number_in (column r 0)) (slice_get rows 0) ≡ version_in old.now.trees
 selects old new rows (inl h) = selects_by index_schema looks old new rows h.schema h.sound h.numbered.0
 selects old new rows (inr h) = selects_by first_version_schema looks_first old new rows h.schema h.sound h.numbered.0

@@ -30,15 +30,27 @@ pub shown : Selects (yanks_at 13) select_yank_text (is_param 1 0 ∷ is_param 2 
 unfolding understood everything
 shown = record { names = headings; compiled = refl; is_plain = (refl, refl); unlisted = refl }
 
-pub selects : (name release : Bytes) (old new : State) (rows : List Row) → IsIndex old.now → Shown select_yank_text (Text name ∷ Text release ∷ []) old new rows
+pub selects : (name release : Bytes) (old new : State) (rows : List Row) → IsIndex old.now
+    → Shown select_yank_text (Text name ∷ Text release ∷ []) old new rows
     → option_map reason_in (slice_get rows 0) ≡ get (tables_in old.now.trees).yanks (name, release)
 selects name release = selects_pair 6 (yanks_at 13) yanks_keyed select_yank_text project shown reason_in (λ params r. refl) (name, release)
 
 pub sure : (name release : Bytes) → IsSure select_yank_text (Text name ∷ Text release ∷ [])
 unfolding understood everything IsSure
-sure name release = ((omega arith, refl, refl, refl, readable_one 13 (is_param 1 0 ∷ is_param 2 1 ∷ []) project [] headings (Text name ∷ Text release ∷ []) refl), refl)
+sure name release = (
+  (
+    omega arith,
+    refl,
+    refl,
+    refl,
+    readable_one 13 (is_param 1 0 ∷ is_param 2 1 ∷ []) project [] headings (Text name ∷ Text release ∷ []) refl,
+  ),
+  refl,
+)
 
 -- the rows that it shows are those of records
-pub records : (name release : Bytes) (old new : State) (rows : List Row) → IsIndex old.now → Shown select_yank_text (Text name ∷ Text release ∷ []) old new rows
+pub records : (name release : Bytes) (old new : State) (rows : List Row) → IsIndex old.now
+    → Shown select_yank_text (Text name ∷ Text release ∷ []) old new rows
     → AllByRecursion IsYankedRow (old.now.trees 13) → AllByRecursion IsYankRow rows
-records name release = shows_pair 6 (yanks_at 13) yanks_keyed select_yank_text project shown IsYankedRow IsYankRow (λ params r it. it.reason) (name, release)
+records name release = shows_pair 6 (yanks_at 13) yanks_keyed select_yank_text project shown IsYankedRow IsYankRow
+    (λ params r it. it.reason) (name, release)

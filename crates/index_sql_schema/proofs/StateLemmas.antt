@@ -7,7 +7,8 @@ use Rattle.sqlite.specs.State.{State, Shown, ShowsRows, IsUnchanged}
 use Rattle.sqlite.proofs.Callers.{IsPlain}
 
 -- a query changes nothing
-pub shown_same : (sql : List ℕ) (params : Row) (old new : State) (rows : List Row) → IsPlain (understood old.now.schema sql) → Shown sql params old new rows → IsUnchanged old new
+pub shown_same : (sql : List ℕ) (params : Row) (old new : State) (rows : List Row) → IsPlain (understood old.now.schema sql)
+    → Shown sql params old new rows → IsUnchanged old new
 unfolding Shown
 shown_same sql params old new rows plain h =
     let none = (subst IsPlain h.1.is plain).0 in

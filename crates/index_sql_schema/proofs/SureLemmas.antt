@@ -1,5 +1,6 @@
 -- Why a query fails that the database refuses for no reason of its own.
-use Rattle.std.proofs.Common.{◌≡◌, ◌⊎◌, inl, inr, ℕ, true, false, List, [], append-nil, Option, None, Some, Ok, IsSome, sym, ap, subst, ◌∙◌, true≢false}
+use Rattle.std.proofs.Common.{◌≡◌, ◌⊎◌, inl, inr, ℕ, true, false, List, [], append-nil, Option, None, Some, Ok, IsSome, sym, ap, subst, ◌∙◌}
+use Rattle.std.proofs.Common.{true≢false}
 use Rattle.sqlite_value.specs.Order.{Row}
 use Rattle.sqlite_value.specs.declared.keys.Key.{Key}
 use Rattle.sqlite_trees.specs.declared.error.StoreError.{StoreError}
@@ -20,7 +21,8 @@ use Rattle.index_sql_schema.proofs.QueryShapes.{plan, from_with, from_one, first
 
 -- a query over one table
 pub readable_one : (tree : ℕ) (tests project : List Term) (order : List (Term × Key)) (names : List (List ℕ)) (params : Row)
-    → accepts_program index_schema [] (from_one tree tests project order) params ≡ true → IsReadable (Select (plan (from_one tree tests project order)) names) params
+    → accepts_program index_schema [] (from_one tree tests project order) params ≡ true
+    → IsReadable (Select (plan (from_one tree tests project order)) names) params
 readable_one tree tests project order names params accepted db is limit e (inl wrong) =
     absurd (true≢false (sym accepted ∙ subst (λ s. accepts_program s [] (from_one tree tests project order) params ≡ false) is wrong.1))
 readable_one tree tests project order names params accepted db is limit e (inr (inl (_, inl none))) = absurd none
@@ -29,7 +31,8 @@ readable_one tree tests project order names params accepted db is limit e (inr (
 
 -- a query of one row of a table
 pub readable_first : (tree : ℕ) (tests project : List Term) (names : List (List ℕ)) (params : Row)
-    → accepts_program index_schema [] (first_from tree tests project) params ≡ true → IsReadable (Select (plan (first_from tree tests project)) names) params
+    → accepts_program index_schema [] (first_from tree tests project) params ≡ true
+    → IsReadable (Select (plan (first_from tree tests project)) names) params
 readable_first tree tests project names params accepted db is limit e (inl wrong) =
     absurd (true≢false (sym accepted ∙ subst (λ s. accepts_program s [] (first_from tree tests project) params ≡ false) is wrong.1))
 readable_first tree tests project names params accepted db is limit e (inr (inl (_, inl none))) = absurd none
@@ -38,9 +41,11 @@ readable_first tree tests project names params accepted db is limit e (inr (inr 
 
 -- a query over one table and what is found in another for each row
 pub readable_left : (tree other : ℕ) (on tests project : List Term) (order : List (Term × Key)) (names : List (List ℕ)) (params : Row)
-    → accepts_program index_schema [] (from_with tree (left other on end) tests project order) params ≡ true → IsReadable (Select (plan (from_with tree (left other on end) tests project order)) names) params
+    → accepts_program index_schema [] (from_with tree (left other on end) tests project order) params ≡ true
+    → IsReadable (Select (plan (from_with tree (left other on end) tests project order)) names) params
 readable_left tree other on tests project order names params accepted db is limit e (inl wrong) =
-    absurd (true≢false (sym accepted ∙ subst (λ s. accepts_program s [] (from_with tree (left other on end) tests project order) params ≡ false) is wrong.1))
+    absurd (true≢false (sym accepted ∙ subst (λ s. accepts_program s [] (from_with tree (left other on end) tests project order) params
+    ≡ false) is wrong.1))
 readable_left tree other on tests project order names params accepted db is limit e (inr (inl (_, inl none))) = absurd none
 readable_left tree other on tests project order names params accepted db is limit e (inr (inl (_, inr none))) = absurd none.4.4
 readable_left tree other on tests project order names params accepted db is limit e (inr (inr stopped)) = stopped.1
@@ -66,7 +71,8 @@ module _ (sql : List ℕ) (params : Row) (old new : State) (e : Error) (has : ol
       known : IsSureAs sql params (Ok h.0)
       known = sure_of h.0 h.1.is
 
-      by_returning : (what : Option Returning) → what ≡ None → FailsToShow old new sql h.0 (timed params h.0.formats h.1.now) e what → FailsFor
+      by_returning : (what : Option Returning) → what ≡ None → FailsToShow old new sql h.0 (timed params h.0.formats h.1.now) e what
+          → FailsFor
       by_returning None _ it =
           let same : it.0 ≡ old.now = subst (λ b. IsSourceOf b old.now it.0) (ap (λ s. reads_listing s sql) has ∙ sure.1) it.1 in
           let refuses : RefusesToRead old.step_limit h.0.command it.0 params e = rw (known.2, append-nil params) at it.2 in

@@ -50,10 +50,12 @@ pub is_pair_key : (n v : Bytes) (k : Bytes × Bytes) → (bytes_eq k.0 n && byte
 is_pair_key n v k = sym (same_pair k (n, v)) ∙ (eq_by_cmp_equiv pair_total).symm k (n, v)
 
 -- the same of a key of two texts
-pub pair_key_test : (params : Row) (first second : ℕ) (q : Bytes × Bytes) (r : Row) → column params first ≡ Text q.0 → column params second ≡ Text q.1 → IsPair r
+pub pair_key_test : (params : Row) (first second : ℕ) (q : Bytes × Bytes) (r : Row) → column params first ≡ Text q.0
+    → column params second ≡ Text q.1 → IsPair r
     → list_all (holds (params ∷ r ∷ [])) (is_param 1 first ∷ is_param 2 second ∷ []) ≡ eq_by_cmp pair_cmp q (pair_key r)
 pair_key_test params first second q r one two is =
-    ap₂ (λ a b. a && b) (text_test params 1 first r q.0 one is.0) (last_term (text_test params 2 second r q.1 two is.1)) ∙ is_pair_key q.0 q.1 (pair_key r)
+    ap₂ (λ a b. a && b) (text_test params 1 first r q.0 one is.0) (last_term (text_test params 2 second r q.1 two is.1))
+    ∙ is_pair_key q.0 q.1 (pair_key r)
 
 -- ---- casts
 
@@ -80,13 +82,17 @@ pub record TextKeyed (at : ℕ) (table : Table) : Type 0 where
   pub is : slice_get index_schema.tables at ≡ Some table
   pub low : (db : Trees) → overlay db [] table.tree ≡ db table.tree
   pub texts : (db : Database) → IsIndex db → AllByRecursion (IsText 1) (db.trees table.tree)
-  pub apart : (db : Database) → IsIndex db → IsAscending (λ a b. eq_by_cmp bytes_cmp (text_key a) (text_key b) ≡ false) (db.trees table.tree)
+  pub apart : (db : Database) → IsIndex db → IsAscending (λ a b. eq_by_cmp bytes_cmp (text_key a) (text_key b) ≡ false)
+      (db.trees table.tree)
 
-text_keyed : (at : ℕ) (table : Table) → slice_get index_schema.tables at ≡ Some table → ((db : Trees) → overlay db [] table.tree ≡ db table.tree) → table.key ≡ None
+text_keyed : (at : ℕ) (table : Table) → slice_get index_schema.tables at ≡ Some table
+    → ((db : Trees) → overlay db [] table.tree ≡ db table.tree) → table.key ≡ None
     → (c : Column) → slice_get table.columns 0 ≡ Some c → c.is_strict ≡ true → c.not_null ≡ true → c.kind ≡ kind.Text
-    → (place : ℕ) (index : Index) → slice_get index_schema.indexes place ≡ Some index → guards index table ≡ true → index.order ≡ plain → index.columns ≡ 1 ∷ [] → TextKeyed at table
+    → (place : ℕ) (index : Index) → slice_get index_schema.indexes place ≡ Some index → guards index table ≡ true → index.order ≡ plain
+    → index.columns ≡ 1 ∷ [] → TextKeyed at table
 text_keyed at table is low keyless c first strict needed text place index found own order columns =
-    let all : (db : Database) → IsIndex db → AllByRecursion (IsText 1) (db.trees table.tree) = λ db h. texts at table is db h keyless 0 c first strict needed text in
+    let all : (db : Database) → IsIndex db → AllByRecursion (IsText 1) (db.trees table.tree) =
+    λ db h. texts at table is db h keyless 0 c first strict needed text in
     record { is = is; low = low; texts = all; apart = λ db h. texts_apart at table is db h place index found own order columns (all db h) }
 
 pub users_keyed : TextKeyed 1 (users_at 1)
@@ -116,13 +122,17 @@ pub record PairKeyed (at : ℕ) (table : Table) : Type 0 where
   pub pairs : (db : Database) → IsIndex db → AllByRecursion IsPair (db.trees table.tree)
   pub apart : (db : Database) → IsIndex db → IsAscending (λ a b. eq_by_cmp pair_cmp (pair_key a) (pair_key b) ≡ false) (db.trees table.tree)
 
-pair_keyed : (at : ℕ) (table : Table) → slice_get index_schema.tables at ≡ Some table → ((db : Trees) → overlay db [] table.tree ≡ db table.tree) → table.key ≡ None
+pair_keyed : (at : ℕ) (table : Table) → slice_get index_schema.tables at ≡ Some table
+    → ((db : Trees) → overlay db [] table.tree ≡ db table.tree) → table.key ≡ None
     → (c : Column) → slice_get table.columns 0 ≡ Some c → c.is_strict ≡ true → c.not_null ≡ true → c.kind ≡ kind.Text
     → (d : Column) → slice_get table.columns 1 ≡ Some d → d.is_strict ≡ true → d.not_null ≡ true → d.kind ≡ kind.Text
-    → (place : ℕ) (index : Index) → slice_get index_schema.indexes place ≡ Some index → guards index table ≡ true → index.order ≡ plain → index.columns ≡ 1 ∷ 2 ∷ [] → PairKeyed at table
+    → (place : ℕ) (index : Index) → slice_get index_schema.indexes place ≡ Some index → guards index table ≡ true → index.order ≡ plain
+    → index.columns ≡ 1 ∷ 2 ∷ [] → PairKeyed at table
 pair_keyed at table is low keyless c first strict needed text d second strict_too needed_too text_too place index found own order columns =
     let all : (db : Database) → IsIndex db → AllByRecursion IsPair (db.trees table.tree) =
-    λ db h. all_both (IsText 1) (IsText 2) IsPair (λ r p q. (p, q)) (db.trees table.tree) (texts at table is db h keyless 0 c first strict needed text) (texts at table is db h keyless 1 d second strict_too needed_too text_too) in
+    λ db h. all_both (IsText 1) (IsText 2) IsPair (λ r p q. (p, q)) (db.trees table.tree)
+    (texts at table is db h keyless 0 c first strict needed text)
+    (texts at table is db h keyless 1 d second strict_too needed_too text_too) in
     record { is = is; low = low; pairs = all; apart = λ db h. pairs_apart at table is db h place index found own order columns (all db h) }
 
 pub owners_keyed : PairKeyed 3 (owners_at 6)

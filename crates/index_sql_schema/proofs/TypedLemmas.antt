@@ -1,5 +1,6 @@
 -- What the types of the columns say of a row.
-use Rattle.std.proofs.Common.{◌≡◌, ℕ, zero, suc, ◌+◌, ◌&&◌, ◌||◌, not, Bool, true, false, List, [], ◌∷◌, slice_get, slice_index_or, Some, None, refl, sym, ap, ◌∙◌, true≢false, subst, arith}
+use Rattle.std.proofs.Common.{◌≡◌, ℕ, zero, suc, ◌+◌, ◌&&◌, ◌||◌, not, Bool, true, false, List, [], ◌∷◌, slice_get, slice_index_or, Some}
+use Rattle.std.proofs.Common.{None, refl, sym, ap, ◌∙◌, true≢false, subst, arith}
 use Rattle.sqlite_value.specs.declared.value.Value.{Value}
 use Rattle.sqlite_value.specs.declared.value.Value.TheVariants.{Null, Int, Real, Text, Blob}
 use Rattle.sqlite_value.specs.Order.{Row, column, bytes}
@@ -18,7 +19,8 @@ second_part true b h = h
 second_part false b h = absurd (true≢false (sym h))
 
 -- the column of a row that passes has a value of its type, or NULL
-pub typed_at : (cs : List Column) (vs : Row) (k at : ℕ) (c : Column) → are_typed None k cs vs ≡ true → slice_get cs at ≡ Some c → c.is_strict ≡ true → suits c (slice_index_or vs at Null) ≡ true
+pub typed_at : (cs : List Column) (vs : Row) (k at : ℕ) (c : Column) → are_typed None k cs vs ≡ true → slice_get cs at ≡ Some c
+    → c.is_strict ≡ true → suits c (slice_index_or vs at Null) ≡ true
 typed_at [] vs k at c h is strict = absurd (let e = is in cc)
 typed_at (d ∷ cs) [] k at c h is strict = rw strict
 typed_at (d ∷ cs) (v ∷ vs) k zero c h is strict = let same : d ≡ c = cc in rw (← same) (first_part _ _ h)
@@ -44,7 +46,8 @@ never_null true false h e = refl
 never_null false null h e = absurd (true≢false (sym e))
 
 -- a column that may hold no NULL holds none
-pub present_at : (cs : List Column) (row : Row) (k at : ℕ) (c : Column) → are_present None k cs row ≡ true → slice_get cs at ≡ Some c → c.not_null ≡ true → is_null (column row (k + at + 1)) ≡ false
+pub present_at : (cs : List Column) (row : Row) (k at : ℕ) (c : Column) → are_present None k cs row ≡ true → slice_get cs at ≡ Some c
+    → c.not_null ≡ true → is_null (column row (k + at + 1)) ≡ false
 present_at [] row k at c h is needed = absurd (let e = is in cc)
 present_at (d ∷ cs) row k zero c h is needed = let same : d ≡ c = cc in
     let here = never_null d.not_null (is_null (column row (k + 1))) (first_part _ _ h) (ap (λ (x : Column). x.not_null) same ∙ needed) in

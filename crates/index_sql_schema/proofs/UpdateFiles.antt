@@ -63,14 +63,23 @@ deleted_row r = Int (rowid_in r) ∷ column r 1 ∷ column r 2 ∷ column r 3 �
 deleted_record : (r : Row) → IsFiledRow r → IsFiledRow (deleted_row r)
 deleted_record r it = record {
   file = it.file;
-  known = record { project = it.known.project; release = it.known.release; digest = it.known.digest; size = it.known.size; requires_python = it.known.requires_python; is_undeleted = inl refl };
+  known = record {
+    project = it.known.project;
+    release = it.known.release;
+    digest = it.known.digest;
+    size = it.known.size;
+    requires_python = it.known.requires_python;
+    is_undeleted = inl refl;
+  };
 }
 
 changes_no_key : (olds : List Row) (x : Row) (xs : List Row) → works index_schema Enforced 0 8 olds (x ∷ xs) ≡ []
 unfolding same_name joined
 changes_no_key olds x xs =
     let some : (length (x ∷ xs) == 0) ≡ false = grind arith in
-    subst (λ b. flat_map (λ (child : Table). filter_map (λ ref. work_by 0 8 (pairs olds (x ∷ xs)) child ref (deed_for Enforced b ref) (parent_key index_schema.tables ref)) child.references) index_schema.tables ≡ []) (sym some) refl
+    subst (λ b. flat_map (λ (child : Table). filter_map
+    (λ ref. work_by 0 8 (pairs olds (x ∷ xs)) child ref (deed_for Enforced b ref) (parent_key index_schema.tables ref))
+    child.references) index_schema.tables ≡ []) (sym some) refl
 
 no_works : (rs found : List Row) → works index_schema Enforced 0 8 (map (row_at rs) (map rowid_in found)) (map deleted_row found) ≡ []
 unfolding same_name joined
@@ -90,13 +99,25 @@ module _ (name : Bytes) where
   of_name r = same name (bytes (column r 2))
 
   tested : (r : Row) → IsText 2 r → list_all (holds ((Text name ∷ []) ∷ r ∷ [])) (is_param 2 0 ∷ []) ≡ of_name r
-  tested r is = last_term (text_test (Text name ∷ []) 2 0 r name refl is ∙ is_key name (bytes (column r 2)) ∙ is_eq-slice_cmp name (bytes (column r 2)))
+  tested r is = last_term (text_test (Text name ∷ []) 2 0 r name refl is ∙ is_key name (bytes (column r 2))
+      ∙ is_eq-slice_cmp name (bytes (column r 2)))
 
   becomes : (r : Row) → IsTypedRow r → cast_row (files_at 8) (eval_all project ((Text name ∷ []) ∷ r ∷ [])) ≡ deleted_row r
-  becomes r is = rw (as_int (rowid r) is.id, is.file, is.name, is.release, is.size, is.requires, cast_int (rowid_in r), cast_int (id_in (column r 5)), cast_int (pos 0)) refl
+  becomes r is = rw (
+    as_int (rowid r) is.id,
+    is.file,
+    is.name,
+    is.release,
+    is.size,
+    is.requires,
+    cast_int (rowid_in r),
+    cast_int (id_in (column r 5)),
+    cast_int (pos 0),
+  ) refl
 
   does : (r : Row) → file_in (cond (of_name r) (deleted_row r) r) ≡ as_deleted_of name (file_in r)
-  does r = elim (of_name r) as (λ b. file_in (cond b (deleted_row r) r) ≡ cond b (as_deleted (file_in r)) (file_in r)) [ true ↦ refl | false ↦ refl ]
+  does r = elim (of_name r) as (λ b. file_in (cond b (deleted_row r) r) ≡ cond b (as_deleted (file_in r)) (file_in r))
+      [ true ↦ refl | false ↦ refl ]
 
   pub updates : (old new : State) (count : ℕ) → IsIndex old.now → Executes update_files_text (Text name ∷ []) old new (Ok count)
       → Changes (λ T. record T { files = change_values (as_deleted_of name) T.files }) old.now new.now
@@ -111,12 +132,24 @@ module _ (name : Bytes) where
       let five = all_both (IsText 3) (IsText 6) (λ r. IsText 3 r × IsText 6 r) (λ r a b. (a, b)) rs releases requires in
       let texts_all = all_both _ _ (λ r. (IsText 1 r × IsText 2 r) × (IsText 3 r × IsText 6 r)) (λ r a b. (a, b)) rs three five in
       let numbers = all_both HasRowid _ (λ r. HasRowid r × (column r 5 ≡ Int (id_in (column r 5)))) (λ r a b. (a, b)) rs whole sizes in
-      let all = all_both _ _ IsTypedRow (λ r t n. record { id = n.0; file = t.0.0; name = t.0.1; release = t.1.0; size = n.1; requires = t.1.1 }) rs texts_all numbers in
-      let tests = all_weaker (IsText 2) (λ r. list_all (holds ((Text name ∷ []) ∷ r ∷ [])) (is_param 2 0 ∷ []) ≡ of_name r) tested rs names in
-      let casts = all-filter (λ r. cast_row (files_at 8) (eval_all project ((Text name ∷ []) ∷ r ∷ [])) ≡ deleted_row r) of_name rs (all_weaker IsTypedRow (λ r. cast_row (files_at 8) (eval_all project ((Text name ∷ []) ∷ r ∷ [])) ≡ deleted_row r) becomes rs all) in
-      let it = updates_rows 4 (files_at 8) refl (λ db. refl) update_files_text (Text name ∷ []) is_plain old new count h (is_param 2 0 ∷ []) project of_name deleted_row compiled (no_works rs) casts deleted_record tests ran in
+      let all = all_both _ _ IsTypedRow (λ r t n. record {
+        id = n.0;
+        file = t.0.0;
+        name = t.0.1;
+        release = t.1.0;
+        size = n.1;
+        requires = t.1.1;
+      }) rs texts_all numbers in
+      let tests = all_weaker (IsText 2) (λ r. list_all (holds ((Text name ∷ []) ∷ r ∷ [])) (is_param 2 0 ∷ []) ≡ of_name r)
+      tested rs names in
+      let casts = all-filter (λ r. cast_row (files_at 8) (eval_all project ((Text name ∷ []) ∷ r ∷ [])) ≡ deleted_row r) of_name rs
+      (all_weaker IsTypedRow (λ r. cast_row (files_at 8) (eval_all project ((Text name ∷ []) ∷ r ∷ [])) ≡ deleted_row r) becomes rs all)
+      in
+      let it = updates_rows 4 (files_at 8) refl (λ db. refl) update_files_text (Text name ∷ []) is_plain old new count h (is_param 2 0 ∷ [])
+      project of_name deleted_row compiled (no_works rs) casts deleted_record tests ran in
       let order = IsPermutation-trans _ _ _ (IsPermutation-sym _ _ it.0) (split_update of_name deleted_row rs) in
       let is =
-      same_rows nat_list_cmp_total exact_bytes text_key file_in (new.now.trees 8) (update_where of_name deleted_row rs) (files_keyed.apart new.now it.1.1) order
+      same_rows nat_list_cmp_total exact_bytes text_key file_in (new.now.trees 8) (update_where of_name deleted_row rs)
+      (files_keyed.apart new.now it.1.1) order
       ∙ map_from-update text_key file_in of_name deleted_row (as_deleted_of name) (λ r. refl) does rs in
       files_change old.now new.now it.1.1 (λ T. change_values (as_deleted_of name) T.files) is it.1.0

@@ -1,5 +1,6 @@
 -- UPDATE meta: the version of the row with id 1 is 2.
-use Rattle.std.proofs.Common.{◌≡◌, ℕ, pos, false, ◌==◌, List, [], ◌∷◌, filter, map, length, Ok, refl, sym, ap, subst, ◌∙◌, arith, IsPermutation}
+use Rattle.std.proofs.Common.{◌≡◌, ℕ, pos, false, ◌==◌, List, [], ◌∷◌, filter, map, length, Ok, refl, sym, ap, subst, ◌∙◌, arith}
+use Rattle.std.proofs.Common.{IsPermutation}
 use Rattle.std.specs.List.{list_all, flat_map, filter_map}
 use Rattle.sqlite_tied.specs.Compute.{everything}
 use Rattle.sqlite_value.specs.declared.value.Value.TheVariants.{Null, Int}
@@ -54,7 +55,9 @@ changes_no_key : (olds : List Row) (x : Row) (xs : List Row) → works index_sch
 unfolding same_name joined
 changes_no_key olds x xs =
     let some : (length (x ∷ xs) == 0) ≡ false = grind arith in
-    subst (λ b. flat_map (λ (child : Table). filter_map (λ ref. work_by 0 0 (pairs olds (x ∷ xs)) child ref (deed_for Enforced b ref) (parent_key index_schema.tables ref)) child.references) index_schema.tables ≡ []) (sym some) refl
+    subst (λ b. flat_map (λ (child : Table). filter_map
+    (λ ref. work_by 0 0 (pairs olds (x ∷ xs)) child ref (deed_for Enforced b ref) (parent_key index_schema.tables ref))
+    child.references) index_schema.tables ≡ []) (sym some) refl
 
 no_works : (rs found : List Row) → works index_schema Enforced 0 0 (map (row_at rs) (map rowid_in found)) (map as_version_2 found) ≡ []
 unfolding same_name joined
@@ -72,13 +75,17 @@ found_alone : (rows found : List Row) → AreRows rows → IsPermutation (filter
 found_alone rows found are same = short_permutation (filter is_first rows) found (one_first rows are) same
 
 -- the tables are as they were, and so is meta, but for the version
-pub updates : (old new : State) (count : ℕ) → IsIndex old.now → Executes update_version_text [] old new (Ok count) → Rewrites (λ T. T) raised old.now new.now
+pub updates : (old new : State) (count : ℕ) → IsIndex old.now → Executes update_version_text [] old new (Ok count)
+    → Rewrites (λ T. T) raised old.now new.now
 updates old new count h ran =
     let rs = old.now.trees 0 in
     let are = are_rows 0 (meta_at 0) refl old.now h in
     let whole = are.1 in
     let passes = all_weaker HasRowid (λ r. list_all (holds ([] ∷ r ∷ [])) tests ≡ is_first r) tested rs whole in
-    let all = all_both HasRowid (IsText 2) (λ r. cast_row (meta_at 0) (eval_all project ([] ∷ r ∷ [])) ≡ as_version_2 r) casts rs whole (kind_texts index_schema refl old.now h.schema h.sound) in
-    let it = updates_rows 0 (meta_at 0) refl (λ db. refl) update_version_text [] is_plain old new count h tests project is_first as_version_2 compiled (no_works rs) (all-filter _ is_first rs all) (λ r _. tt) passes ran in
+    let all = all_both HasRowid (IsText 2) (λ r. cast_row (meta_at 0) (eval_all project ([] ∷ r ∷ [])) ≡ as_version_2 r) casts rs whole
+    (kind_texts index_schema refl old.now h.schema h.sound) in
+    let it = updates_rows 0 (meta_at 0) refl (λ db. refl) update_version_text
+    [] is_plain old new count h tests project is_first as_version_2 compiled (no_works rs) (all-filter _ is_first rs all) (λ r _. tt)
+    passes ran in
     let alone = found_alone rs it.2.0 are it.2.1 in
     meta_change old.now new.now it.1.1 raised (it.2.2 ∙ ap (λ l. put_all (delete_where is_first rs) (map as_version_2 l)) alone) it.1.0

@@ -1,5 +1,6 @@
 -- How a statement inside a transaction goes, whatever its text is.
-use Rattle.std.proofs.Common.{◌≡◌, ◌≤◌, ◌⊎◌, inl, inr, ℕ, false, List, [], length, append-nil, Option, None, Some, Result, Ok, Err, refl, sym, ap, subst, subst₂, ◌∙◌, true≢false, IsTrue}
+use Rattle.std.proofs.Common.{◌≡◌, ◌≤◌, ◌⊎◌, inl, inr, ℕ, false, List, [], length, append-nil, Option, None, Some, Result, Ok, Err, refl}
+use Rattle.std.proofs.Common.{sym, ap, subst, subst₂, ◌∙◌, true≢false, IsTrue}
 use Rattle.std.specs.Prelude.{MatchResult, ⊤}
 use Rattle.sqlite_disk.specs.Disk.{MoreFaults}
 use Rattle.sqlite_value.specs.Order.{Row}
@@ -19,7 +20,8 @@ use Rattle.sqlite.specs.Effect.{Database, is_query}
 use Rattle.sqlite.specs.Held.{Held, state}
 use Rattle.sqlite.specs.Listing.{understood}
 use Rattle.sqlite.specs.Rows.{Outcome}
-use Rattle.sqlite.specs.State.{State, Escapes, EndsScope, Executes, ExecutesIn, ExecutesInside, Fails, HasCause, IsMisplaced, IsNotRun, IsStatement, Runs, RunsCommand, Writes, is_pragma, mode_of, shows_rows, store_error, text_of}
+use Rattle.sqlite.specs.State.{State, Escapes, EndsScope, Executes, ExecutesIn, ExecutesInside, Fails, HasCause, IsMisplaced, IsNotRun}
+use Rattle.sqlite.specs.State.{IsStatement, Runs, RunsCommand, Writes, is_pragma, mode_of, shows_rows, store_error, text_of}
 use Rattle.index_sql_schema.specs.Faults.{fault_by}
 use Rattle.index_rules.specs.declared.answer.Fault.TheVariants as fault
 use Rattle.index_sql_schema.specs.Schema.{index_schema}
@@ -76,7 +78,8 @@ stays_in s k w (inl (inr rollback)) = subst IsWriting rollback w
 stays_in s k w (inr (name, inl release, _)) = subst IsWriting release w
 stays_in s k w (inr (name, inr back, _)) = subst IsWriting back w
 
-writes_of : (old new : State) (returning : Option Returning) (k : Command) (text : List ℕ) (params : Row) (count : ℕ) → IsWriting k → Runs old new returning k text params count → Writes old new returning k text params count
+writes_of : (old new : State) (returning : Option Returning) (k : Command) (text : List ℕ) (params : Row) (count : ℕ) → IsWriting k
+    → Runs old new returning k text params count → Writes old new returning k text params count
 writes_of old new returning (Insert at from) text params count w it = it
 writes_of old new returning (InsertOr at how from clauses) text params count w it = it
 writes_of old new returning (Update at q) text params count w it = it
@@ -97,12 +100,14 @@ module _ (old new : State) (too_big : Type 0) (e : Error) (opened : IsTrue old.i
   pub caused : Fails old new too_big e → MoreFaults old.faults new.faults ⊎ too_big
   caused fails = by_cause fails.0 fails.1 fails.2
 
-module _ (schema : Schema) (sql : List ℕ) (params : Row) (write : IsWrite schema sql (length params)) (old new : State) (has : old.now.schema ≡ schema) (opened : IsTrue old.is_open) (unlimited : old.step_limit ≡ None) where
+module _ (schema : Schema) (sql : List ℕ) (params : Row) (write : IsWrite schema sql (length params)) (old new : State)
+    (has : old.now.schema ≡ schema) (opened : IsTrue old.is_open) (unlimited : old.step_limit ≡ None) where
   writes_as : (it : Result Compiled CompileError) → understood old.now.schema sql ≡ it → WritesAs sql (length params) it
   unfolding IsWrite
   writes_as it is = subst (WritesAs sql (length params)) (ap (λ s. understood s sql) (sym has) ∙ is) write
 
-  plainly : (c : Compiled) (it : IsStatement old sql params c) (out : Outcome (Tally × Database)) → Does old.step_limit (mode_of old) (timed params c.formats it.now) old.now (text_of sql c) c.returning c.command out
+  plainly : (c : Compiled) (it : IsStatement old sql params c) (out : Outcome (Tally × Database))
+      → Does old.step_limit (mode_of old) (timed params c.formats it.now) old.now (text_of sql c) c.returning c.command out
       → Does None each_statement params old.now (text_of sql c) c.returning c.command out
   plainly c it out does =
       let bare : timed params c.formats it.now ≡ params = rw ((writes_as (Ok c) it.is).2, append-nil params) refl in
@@ -120,10 +125,12 @@ module _ (schema : Schema) (sql : List ℕ) (params : Row) (write : IsWrite sche
     abbrev Reason : Type 0
     Reason = MoreFaults old.faults new.faults ⊎ ((why : Option Error) × SqlAnswersStatement sql params old.now (Err why))
 
-    refused : (c : Compiled) (it : IsStatement old sql params c) (why : Option Error) → Does old.step_limit (mode_of old) (timed params c.formats it.now) old.now (text_of sql c) c.returning c.command (Err why) → Reason
+    refused : (c : Compiled) (it : IsStatement old sql params c) (why : Option Error)
+        → Does old.step_limit (mode_of old) (timed params c.formats it.now) old.now (text_of sql c) c.returning c.command (Err why) → Reason
     refused c it why does = inr (why, (c, it.is, inl (why, plainly c it (Err why) does, refl)))
 
-    of_run : (c : Compiled) (it : IsStatement old sql params c) → IsWriting c.command → RunsCommand old new sql c (timed params c.formats it.now) (Err e) → Reason
+    of_run : (c : Compiled) (it : IsStatement old sql params c) → IsWriting c.command
+        → RunsCommand old new sql c (timed params c.formats it.now) (Err e) → Reason
     of_run c it w (inl (inl misplaced, _)) = absurd (no_place old c.command e w misplaced)
     of_run c it w (inl (inr does, _)) = refused c it (Some e) does.1
     of_run c it w (inr fails) = elim (caused old new _ e opened store fails) [ inl more ↦ inl more | inr big ↦ refused c it None big ]
@@ -146,19 +153,34 @@ module _ (schema : Schema) (sql : List ℕ) (params : Row) (write : IsWrite sche
     inside (inr ((c, it, escapes), _, _)) = absurd (stays_in old c.command (writes_as (Ok c) it.is).4 escapes)
 
   -- it makes what SQL answers, or fails by the disk, or as SQL refuses
-  pub goes : (r : Result ℕ Error) → ExecutesInside 0 sql params old new r → MatchResult r (λ _. SqlAnswersStatement sql params old.now (Ok new.now)) (SqlFailsForReason (SqlAnswersStatement sql params old.now) old new)
+  pub goes : (r : Result ℕ Error) → ExecutesInside 0 sql params old new r
+      → MatchResult r (λ _. SqlAnswersStatement sql params old.now (Ok new.now))
+      (SqlFailsForReason (SqlAnswersStatement sql params old.now) old new)
   goes (Ok count) ran = did count ran.0
   goes (Err e) ran = λ store. inside e store ran
 
 -- so goes a step of one statement
-pub step_goes : {S : Type 0} (g : Ghosts S) (sql : List ℕ) (cells params : Row) → IsWrite index_schema sql (length cells) → (old new : Held S) (r : Result ℕ Error) → IsInTransaction (state g old) → (state g old).step_limit ≡ None
+pub step_goes : {S : Type 0} (g : Ghosts S) (sql : List ℕ) (cells params : Row) → IsWrite index_schema sql (length cells)
+    → (old new : Held S) (r : Result ℕ Error) → IsInTransaction (state g old) → (state g old).step_limit ≡ None
     → (IsTrue (state g old).in_transaction → ExecutesInside 0 sql params (state g old) (state g new) r) → params ≡ cells
-    → MatchResult r (λ _. SqlAnswersStatement sql cells (state g old).now (Ok (state g new).now)) (SqlFailsForReason (SqlAnswersStatement sql cells (state g old).now) (state g old) (state g new))
+    → MatchResult r (λ _. SqlAnswersStatement sql cells (state g old).now (Ok (state g new).now))
+    (SqlFailsForReason (SqlAnswersStatement sql cells (state g old).now) (state g old) (state g new))
 step_goes g sql cells params write old new r ready unlimited runs given =
-    goes index_schema sql cells write (state g old) (state g new) ready.index.schema ready.is_open unlimited r (subst (λ ps. ExecutesInside 0 sql ps (state g old) (state g new) r) given (runs ready.inside))
+    goes index_schema sql cells write (state g old) (state g new) ready.index.schema ready.is_open unlimited r
+    (subst (λ ps. ExecutesInside 0 sql ps (state g old) (state g new) r) given (runs ready.inside))
 
 -- a step with numbers goes as its statement, if these fit
-pub fits : {A : Type 0} (numbers : List ℕ) (sql : List ℕ) (given cells : Row) (old new : State) (r : Result A Error) → given ≡ cells → MatchResult r (λ _. SqlAnswersStatement sql given old.now (Ok new.now)) (SqlFailsForReason (SqlAnswersStatement sql given old.now) old new)
-    → MatchResult r (λ _. SqlAnswersAsk (WithNumbers numbers (Statement sql cells)) old.now (Ok new.now)) (SqlFailsForReason (SqlAnswersAsk (WithNumbers numbers (Statement sql cells)) old.now) old new)
+pub fits : {A : Type 0} (numbers : List ℕ) (sql : List ℕ) (given cells : Row) (old new : State) (r : Result A Error) → given ≡ cells
+    → MatchResult r (λ _. SqlAnswersStatement sql given old.now (Ok new.now))
+    (SqlFailsForReason (SqlAnswersStatement sql given old.now) old new)
+    → MatchResult r (λ _. SqlAnswersAsk (WithNumbers numbers (Statement sql cells)) old.now (Ok new.now))
+    (SqlFailsForReason (SqlAnswersAsk (WithNumbers numbers (Statement sql cells)) old.now) old new)
 fits numbers sql given cells old new (Ok done) same it = inr (subst (λ ps. SqlAnswersStatement sql ps old.now (Ok new.now)) same it)
-fits numbers sql given cells old new (Err e) same it = λ store. elim (it store) [ inl more ↦ inl more | inr refuses ↦ inr (refuses.0, inr (subst (λ ps. SqlAnswersStatement sql ps old.now (Err refuses.0)) same refuses.1)) ]
+fits numbers sql given cells old new (Err e) same it =
+    λ store. elim (it store) [
+      | inl more ↦ inl more
+      | inr refuses ↦ inr (
+        refuses.0,
+        inr (subst (λ ps. SqlAnswersStatement sql ps old.now (Err refuses.0)) same refuses.1),
+      )
+    ]

@@ -1,5 +1,6 @@
 -- The bytes of the files that rows show.
-use Rattle.std.proofs.Common.{◌≡◌, ◌≢◌, ◌<◌, length, IsSome, IsUtf8, subst, true≢false, Bool, true, false, cond, not, ◌||◌, List, [], ◌∷◌, Option, None, refl, sym, ap, ◌∙◌}
+use Rattle.std.proofs.Common.{◌≡◌, ◌≢◌, ◌<◌, length, IsSome, IsUtf8, subst, true≢false, Bool, true, false, cond, not, ◌||◌, List, [], ◌∷◌}
+use Rattle.std.proofs.Common.{Option, None, refl, sym, ap, ◌∙◌}
 use Rattle.std.specs.List.{list_any}
 use Rattle.std.specs.FinMap.{get, remove, same_map}
 use Rattle.std.proofs.lemmas.Cmp.{nat_list_cmp_total}
@@ -32,7 +33,8 @@ turned true at = refl
 turned false at = refl
 
 -- what is left at a file
-get-removes : (rows : List Row) (bodies : Map Bytes) (file : Bytes) → get (removes rows bodies) file ≡ cond (list_any (λ r. same file (file_shown r)) rows) None (get bodies file)
+get-removes : (rows : List Row) (bodies : Map Bytes) (file : Bytes)
+    → get (removes rows bodies) file ≡ cond (list_any (λ r. same file (file_shown r)) rows) None (get bodies file)
 get-removes [] bodies file = refl
 get-removes (r ∷ rows) bodies file =
     get-removes rows (remove bodies (file_shown r)) file
@@ -53,6 +55,8 @@ never_unread_at : (v : Value) → IsFileText v → ((t : Bytes) × (v ≡ Text t
 never_unread_at (Text file) is unread = true≢false (sym (subst IsSome (read_file_name-no_text file (λ utf8. unread (file, refl, utf8))) is))
 never_unread_at _ is unread = is
 
-pub never_unread : (r : Row) → RowShowsFileName r → (e : Error) → fault_by e ≡ fault.Store → (e ≢ SqliteFailure OutOfMemory → 0 < length r → (t : Bytes) × (column r 0 ≡ Text t) × IsUtf8 t → ⊥) → ⊥
+pub never_unread : (r : Row) → RowShowsFileName r → (e : Error) → fault_by e ≡ fault.Store
+    → (e ≢ SqliteFailure OutOfMemory → 0 < length r → (t : Bytes) × (column r 0 ≡ Text t) × IsUtf8 t → ⊥) → ⊥
 never_unread r shows e store unread =
-    never_unread_at (column r 0) shows.1 (unread (λ memory. absurd (let f = subst (λ x. fault_by x ≡ fault.Store) memory store in cc)) shows.0)
+    never_unread_at (column r 0) shows.1 (unread (λ memory. absurd (let f = subst (λ x. fault_by x ≡ fault.Store) memory store in cc))
+    shows.0)

@@ -20,13 +20,17 @@ insert-remove m k v =
     (λ q other. get-without_other m k q other ∙ sym (get-put_other m k v q other)))
 
 -- the steps of a prohibition
-pub prohibits : (name : Bytes) → (λ T. puts_name name Prohibited (without_record name (marks_files name (deletes_bodies name T)))) ≡ means (change.Prohibit name)
+pub prohibits : (name : Bytes) → (λ T. puts_name name Prohibited (without_record name (marks_files name (deletes_bodies name T))))
+    ≡ means (change.Prohibit name)
 prohibits name i T = record (means (change.Prohibit name) T) { names = insert-remove T.names name Prohibited i }
 
 -- the steps of an upload, and of one that ends a case
 module _ (name : Bytes) (project : Project) (file : Bytes) (known : FileRecord) (body : Bytes) where
-  pub uploads : (λ T. puts_body file body (deletes_body file (puts_file file known (puts_name name (Held project) T)))) ≡ means (change.Upload name project file known body false)
+  pub uploads : (λ T. puts_body file body (deletes_body file (puts_file file known (puts_name name (Held project) T))))
+      ≡ means (change.Upload name project file known body false)
   uploads i T = record (means (change.Upload name project file known body false) T) { bodies = insert-remove T.bodies file body i }
 
-  pub uploads_in_case : (λ T. deletes_case name (puts_body file body (deletes_body file (puts_file file known (puts_name name (Held project) T))))) ≡ means (change.Upload name project file known body true)
+  pub uploads_in_case : (λ T. deletes_case name
+      (puts_body file body (deletes_body file (puts_file file known (puts_name name (Held project) T)))))
+      ≡ means (change.Upload name project file known body true)
   uploads_in_case i T = record (means (change.Upload name project file known body true) T) { bodies = insert-remove T.bodies file body i }

@@ -6,7 +6,8 @@ use Rattle.sqlite.specs.declared.error.Error.{Error}
 use Rattle.sqlite.specs.Clock.{timed}
 use Rattle.sqlite.specs.Effect.{Database}
 use Rattle.sqlite.specs.Listing.{understood}
-use Rattle.sqlite.specs.State.{State, Shown, ShowsRows, FailsToQuery, FailsToShow, IsNotRun, IsTooLate, IsUnchanged, IsRolledBack, KeepsCommit}
+use Rattle.sqlite.specs.State.{State, Shown, ShowsRows, FailsToQuery, FailsToShow, IsNotRun, IsTooLate, IsUnchanged, IsRolledBack}
+use Rattle.sqlite.specs.State.{KeepsCommit}
 use Rattle.sqlite.proofs.Callers.{IsPlain}
 use Rattle.index_rules.specs.Tables.{Tables}
 use Rattle.index_sql_schema.proofs.PlainLemmas.{plain_anywhere}
@@ -22,7 +23,8 @@ use Rattle.index_sql_schema.specs.RecordRows.{AreRecords}
 use Rattle.index_sql_writes.specs.Transaction.{IsInTransaction, MakesInTransaction}
 
 -- with its parameters as they are
-pub shown_with : (sql : List ℕ) (cells params : Row) (old new : State) (rows : List Row) → params ≡ cells → Shown sql params old new rows → Shown sql cells old new rows
+pub shown_with : (sql : List ℕ) (cells params : Row) (old new : State) (rows : List Row) → params ≡ cells → Shown sql params old new rows
+    → Shown sql cells old new rows
 shown_with sql cells params old new rows same shown = subst (λ ps. Shown sql ps old new rows) same shown
 
 module _ (old new : State) where
@@ -51,7 +53,8 @@ module _ (old new : State) where
     refused_keeps e (inl (inl (inr fails))) = undone_keeps fails.3
     refused_keeps e (inl (inr h)) = by_returning h.0.returning h.2
       where
-        by_returning : (what : Option Returning) → FailsToShow old new sql h.0 (timed params h.0.formats h.1.now) e what → KeepsCommit old new
+        by_returning : (what : Option Returning) → FailsToShow old new sql h.0 (timed params h.0.formats h.1.now) e what
+            → KeepsCommit old new
         by_returning None it = unchanged_keeps it.3
         by_returning (Some what) (inl same) = unchanged_keeps same.1
         by_returning (Some what) (inr fails) = undone_keeps fails.3
@@ -67,7 +70,9 @@ module _ (old new : State) where
   }
 
 -- another word for what was made of these tables
-pub makes_as : (change other : Tables → Tables) (first last : State) → change (tables_in first.now.trees) ≡ other (tables_in first.now.trees) → MakesInTransaction change same_meta first last → MakesInTransaction other same_meta first last
+pub makes_as : (change other : Tables → Tables) (first last : State)
+    → change (tables_in first.now.trees) ≡ other (tables_in first.now.trees) → MakesInTransaction change same_meta first last
+    → MakesInTransaction other same_meta first last
 makes_as change other first last same made = record {
   ready = made.ready;
   tables = made.tables ∙ same;
@@ -77,10 +82,12 @@ makes_as change other first last same made = record {
 }
 
 -- a sure query fails with the disk alone
-pub query_goes : (sql : List ℕ) (cells params : Row) (old new : State) (e : Error) → params ≡ cells → IsSure sql cells → CanAsk old → FailsToQuery sql params old new e ⊎ IsTooLate sql params old new e → SqlFailsForReason (Gives old.now) old new e
+pub query_goes : (sql : List ℕ) (cells params : Row) (old new : State) (e : Error) → params ≡ cells → IsSure sql cells → CanAsk old
+    → FailsToQuery sql params old new e ⊎ IsTooLate sql params old new e → SqlFailsForReason (Gives old.now) old new e
 query_goes sql cells params old new e given sure can (inr late) store = absurd (true≢false (sym can.ready.inside ∙ late.3))
 query_goes sql cells params old new e given sure can (inl fails) store =
     elim (fails_for sql params old new e can.ready.index.schema (subst (IsSure sql) (sym given) sure) fails) [
-      | inl failed ↦ elim (by_cause old new ⊥ e can.ready.is_open store failed.0 failed.1 failed.2) [ inl fault ↦ inl fault | inr none ↦ absurd none ]
+      | inl failed ↦ elim (by_cause old new ⊥ e can.ready.is_open store failed.0 failed.1 failed.2)
+          [ inl fault ↦ inl fault | inr none ↦ absurd none ]
       | inr limited ↦ absurd (true≢false (sym (subst IsSome can.unlimited limited)))
     ]

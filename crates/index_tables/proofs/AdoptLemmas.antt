@@ -1,6 +1,7 @@
 -- What is done after a look at the version.
 use Rattle.std.proofs.lemmas.Bool.{cases_Bool}
-use Rattle.std.proofs.Common.{◌≡◌, ◌≢◌, inl, inr, ◌∙◌, ap, refl, subst, sym, Bool, true, false, true≢false, if◌then◌else◌, ◌==◌, ◌&&◌, codes, IsSome, IsTrue, ℕ, Option, option_map, None, Some, Result, Ok, Err, IfErr}
+use Rattle.std.proofs.Common.{◌≡◌, ◌≢◌, inl, inr, ◌∙◌, ap, refl, subst, sym, Bool, true, false, true≢false, if◌then◌else◌, ◌==◌, ◌&&◌}
+use Rattle.std.proofs.Common.{codes, IsSome, IsTrue, ℕ, Option, option_map, None, Some, Result, Ok, Err, IfErr}
 use Rattle.sqlite_trees.specs.declared.store.Store.{Ghosts}
 use Rattle.sqlite.specs.Effect.{Database}
 use Rattle.sqlite.specs.Held.{Held, state}
@@ -30,7 +31,9 @@ use Rattle.index_tables.specs.declared.opening.Unopened.{Unopened}
 use Rattle.index_tables.specs.BooksState.{IsWorking, BooksState}
 use Rattle.index_tables.specs.declared.adopt.Kind.{Kind}
 use Rattle.index_tables.specs.declared.adopt.Kind.TheVariants.{FirstVersion}
-use Rattle.index_tables.specs.Adopted.{Adopts, AreHandedOn, DatabaseFailsToOpen, DatabaseHasVersion, foreign_tables_fault, refusal_by, HasVersionOne, IsFound, IsOurs, IsRaised, IsReason, IsReasonOfKind, StandAsFound, refusal_in, version_of}
+use Rattle.index_tables.specs.Adopted.{Adopts, AreHandedOn, DatabaseFailsToOpen, DatabaseHasVersion, foreign_tables_fault, refusal_by}
+use Rattle.index_tables.specs.Adopted.{HasVersionOne, IsFound, IsOurs, IsRaised, IsReason, IsReasonOfKind, StandAsFound, refusal_in}
+use Rattle.index_tables.specs.Adopted.{version_of}
 use Rattle.index_tables.specs.Opened.{AreOpened, CrashLeavesOrMakes, IsFault, IsUnopened, StoreForRefusal, open_fault_by}
 
 -- one set of tables is found in a database
@@ -78,18 +81,24 @@ memory_alone None first bans is = absurd (let it = is in cc)
 memory_alone (Some version) first bans is = version_alone (version == 1) (version == 2) first (first && bans) is
 
 no_memory : (schema : Schema) (version : Option ℕ) → OutOfMemory ≡ refusal_in schema version → ⊥
-no_memory schema version is = memory_alone version (has_all_of schema first_version_schema.tables) (has_table schema (codes "bans")) (sym is)
+no_memory schema version is = memory_alone version (has_all_of schema first_version_schema.tables) (has_table schema (codes "bans"))
+    (sym is)
 
 module _ {S : Type 0} (g : Ghosts S) where
-  told_is : (held : Held S) (version : Option ℕ) → IsTrue (state g held).is_open → IsOurs (state g held).now → DatabaseHasVersion g held version → version ≡ version_in (state g held).now.trees
+  told_is : (held : Held S) (version : Option ℕ) → IsTrue (state g held).is_open → IsOurs (state g held).now
+      → DatabaseHasVersion g held version → version ≡ version_in (state g held).now.trees
   told_is held version o ours (inl (_, is)) = is
-  told_is held version o ours (inr tells) = tells.first ∙ selects (state g (begun held)) (state g tells.after) tells.rows (any_version (state g held).now ours) tells.shown
+  told_is held version o ours (inr tells) = tells.first
+      ∙ selects (state g (begun held)) (state g tells.after) tells.rows (any_version (state g held).now ours) tells.shown
 
-  by_version : (held : Held S) (version : Option ℕ) (why : OpenFault) → IsTrue (state g held).is_open → IsOurs (state g held).now → DatabaseHasVersion g held version → why ≡ refusal_in (state g held).now.schema version → IsFault why
-  by_version held version why o ours tells is = inr (is ∙ ap (refusal_in (state g held).now.schema) (told_is held version o ours tells) ∙ store_alone (state g held).now ours)
+  by_version : (held : Held S) (version : Option ℕ) (why : OpenFault) → IsTrue (state g held).is_open → IsOurs (state g held).now
+      → DatabaseHasVersion g held version → why ≡ refusal_in (state g held).now.schema version → IsFault why
+  by_version held version why o ours tells is =
+      inr (is ∙ ap (refusal_in (state g held).now.schema) (told_is held version o ours tells) ∙ store_alone (state g held).now ours)
 
   -- of an index only a fault is a reason
-  pub fault_alone : (held new : Held S) (why : OpenFault) → IsReason g held new why → IsTrue (state g held).is_open → IsOurs (state g held).now → IsFault why
+  pub fault_alone : (held new : Held S) (why : OpenFault) → IsReason g held new why → IsTrue (state g held).is_open
+      → IsOurs (state g held).now → IsFault why
   fault_alone held new NotAnIndex (inl none) o ours = absurd (true≢false (sym (ours_tell (state g held).now ours) ∙ none))
   fault_alone held new NotAnIndex (inr (version, tells, is)) o ours = by_version held version NotAnIndex o ours tells is
   fault_alone held new OutOfMemory reason o ours = inl refl
@@ -101,7 +110,8 @@ module _ {S : Type 0} (g : Ghosts S) where
   -- what is known of a database with a table of the version
   module _ (held new : Held S) (meta : IsTrue (has_meta (state g held).now.schema)) where
     -- what the version that is told says is a reason
-    pub reason_told : (version : Option ℕ) (why : OpenFault) → DatabaseHasVersion g held version → why ≡ refusal_in (state g held).now.schema version → IsReason g held new why
+    pub reason_told : (version : Option ℕ) (why : OpenFault) → DatabaseHasVersion g held version
+        → why ≡ refusal_in (state g held).now.schema version → IsReason g held new why
     reason_told version NotAnIndex tells is = inr (version, tells, is)
     reason_told version OutOfMemory tells is = absurd (no_memory (state g held).now.schema version is)
     reason_told version Store tells is = (meta, inl (version, tells, is))
@@ -110,7 +120,8 @@ module _ {S : Type 0} (g : Ghosts S) where
     reason_told version OtherVersion tells is = (version, tells, is)
 
     -- and so is a fault
-    pub reason_failed : (f : Fault) (why : OpenFault) → why ≡ open_fault_by f → VersionQueryFailsInside g (begun held) f → IsReason g held new why
+    pub reason_failed : (f : Fault) (why : OpenFault) → why ≡ open_fault_by f → VersionQueryFailsInside g (begun held) f
+        → IsReason g held new why
     reason_failed fault.OutOfMemory why is fails = subst (IsReason g held new) (sym is) (meta, inr (inl fails))
     reason_failed fault.Store why is fails = subst (IsReason g held new) (sym is) (meta, inr (inr (inl fails)))
 
@@ -127,7 +138,8 @@ module _ {S : Type 0} (g : Ghosts S) where
   -- what is known of one of a kind
   module _ (kind : Kind) (held new : Held S) where
     -- another version than its own is a reason
-    pub other_told : (version : Option ℕ) (why : OpenFault) → DatabaseHasVersion g held version → version ≢ Some (version_of kind) → why ≡ refusal_in (state g held).now.schema version → IsReasonOfKind g kind held new why
+    pub other_told : (version : Option ℕ) (why : OpenFault) → DatabaseHasVersion g held version → version ≢ Some (version_of kind)
+        → why ≡ refusal_in (state g held).now.schema version → IsReasonOfKind g kind held new why
     other_told version NotAnIndex tells other is = (version, tells, other, is)
     other_told version OutOfMemory tells other is = absurd (no_memory (state g held).now.schema version is)
     other_told version Store tells other is = inl (version, tells, other, is)
@@ -136,7 +148,8 @@ module _ {S : Type 0} (g : Ghosts S) where
     other_told version OtherVersion tells other is = (version, tells, other, is)
 
     -- and so is a fault
-    pub kind_failed : (f : Fault) (why : OpenFault) → why ≡ open_fault_by f → FailsToReadVersion g held new f → HasCleanDisk (state g new) → IsReasonOfKind g kind held new why
+    pub kind_failed : (f : Fault) (why : OpenFault) → why ≡ open_fault_by f → FailsToReadVersion g held new f → HasCleanDisk (state g new)
+        → IsReasonOfKind g kind held new why
     kind_failed fault.OutOfMemory why is fails clean = subst (IsReasonOfKind g kind held new) (sym is) (inl (fails.query clean))
     kind_failed fault.Store why is fails clean = subst (IsReasonOfKind g kind held new) (sym is) (inr (inl (fails.reason clean refl)))
 
@@ -151,22 +164,28 @@ module _ {S : Type 0} (g : Ghosts S) where
       ]
       since (inr (inr limit)) = inr (inr (subst IsSome looks.survives.limit limit))
 
-      refused : (IsTrue (state g held).is_open → IsFirstVersion (state g held).now) → version_in (state g held).now.trees ≡ Some 1 → AreRefused asks_of_migration (state g mid).now → DatabaseFailsToOpen g held new
+      refused : (IsTrue (state g held).is_open → IsFirstVersion (state g held).now) → version_in (state g held).now.trees ≡ Some 1
+          → AreRefused asks_of_migration (state g mid).now → DatabaseFailsToOpen g held new
       refused first told refuses = elim (cases_Bool (state g held).is_open) [
         | inl opened ↦ inr (inr ((first opened, told), subst (AreRefused asks_of_migration) (looks.same refl clean) refuses))
         | inr shut ↦ inl (inr (inl shut))
       ]
 
-      pub reason_raised : (why : OpenFault) → (IsTrue (state g held).is_open → IsFirstVersion (state g held).now) → version_in (state g held).now.trees ≡ Some 1 → IsFault why → StoreForRefusal g asks_of_migration mid new why → IsReasonOfKind g FirstVersion held new why
+      pub reason_raised : (why : OpenFault) → (IsTrue (state g held).is_open → IsFirstVersion (state g held).now)
+          → version_in (state g held).now.trees ≡ Some 1 → IsFault why → StoreForRefusal g asks_of_migration mid new why
+          → IsReasonOfKind g FirstVersion held new why
       reason_raised why first told (inl memory) reason = subst (IsReasonOfKind g FirstVersion held new) (sym memory) (inr (told, first))
-      reason_raised why first told (inr store) reason = subst (IsReasonOfKind g FirstVersion held new) (sym store) (inr (elim (reason store) [ inl it ↦ inl (since it) | inr refuses ↦ refused first told refuses ]))
+      reason_raised why first told (inr store) reason =
+          subst (IsReasonOfKind g FirstVersion held new) (sym store)
+          (inr (elim (reason store) [ inl it ↦ inl (since it) | inr refuses ↦ refused first told refuses ]))
 
   -- what is opened, or not, after a look
   module _ (a b : Held S) (looks : QueriesOnly g a b true) where
     works_after : IsWorking (state g a) → HasCleanDisk (state g b) → IsWorking (state g b)
     works_after working clean = record { clean = clean; is_open = looks.lasts refl clean working.is_open }
 
-    raised_after : (c : Held S) → (HasCleanDisk (state g c) → HasCleanDisk (state g b)) → CrashLeavesOrMakes IsRaised (state g b) (state g c) → CrashLeavesOrMakes IsRaised (state g a) (state g c)
+    raised_after : (c : Held S) → (HasCleanDisk (state g c) → HasCleanDisk (state g b))
+        → CrashLeavesOrMakes IsRaised (state g b) (state g c) → CrashLeavesOrMakes IsRaised (state g a) (state g c)
     raised_after c was_clean it working clean db may =
         let at_b = was_clean clean in
         elim (it (works_after working at_b) clean db may) [
@@ -176,19 +195,23 @@ module _ {S : Type 0} (g : Ghosts S) where
 
     pub opened_after : (books : BooksState S) → AreOpened 2 g IsRaised b books → AreOpened 2 g IsRaised a books
     opened_after books it = record {
-      was_working = λ working. let at_b = it.was_working working in record { clean = looks.was_clean at_b.clean; is_open = looks.was_open at_b.clean at_b.is_open };
+      was_working = λ working. let at_b = it.was_working working in
+          record { clean = looks.was_clean at_b.clean; is_open = looks.was_open at_b.clean at_b.is_open };
       was_clean = λ clean. looks.was_clean (it.was_clean clean);
       lasts = λ working clean. it.lasts (works_after working (it.was_clean clean)) clean;
       failures = it.failures;
       stores = it.stores;
       limit = λ working. it.limit working ∙ looks.survives.limit;
-      records = λ records working. let at_b = it.was_working working in it.records (subst AreRecords (sym (looks.now_is at_b.clean at_b.is_open)) records) working;
+      records = λ records working. let at_b = it.was_working working in
+          it.records (subst AreRecords (sym (looks.now_is at_b.clean at_b.is_open)) records) working;
       crash = raised_after books.conn it.was_clean it.crash;
       alone = λ working T left. it.alone (works_after working (it.was_clean left.0)) T left;
     }
 
-    pub refused_after : (refused : Unopened S) → (IsTrue (state g a).is_open → IsFirstVersion (state g a).now) → (HasCleanDisk (state g b) → version_in (state g a).now.trees ≡ Some 1)
-        → IsFault refused.why → IsUnopened g IsRaised (StoreForRefusal g asks_of_migration) b refused → IsUnopened g IsRaised (IsReasonOfKind g FirstVersion) a refused
+    pub refused_after : (refused : Unopened S) → (IsTrue (state g a).is_open → IsFirstVersion (state g a).now)
+        → (HasCleanDisk (state g b) → version_in (state g a).now.trees ≡ Some 1)
+        → IsFault refused.why → IsUnopened g IsRaised (StoreForRefusal g asks_of_migration) b refused
+        → IsUnopened g IsRaised (IsReasonOfKind g FirstVersion) a refused
     refused_after refused first told fault it = record {
       outside = it.outside;
       was_clean = λ clean. looks.was_clean (it.was_clean clean);
@@ -201,16 +224,21 @@ module _ {S : Type 0} (g : Ghosts S) where
             committed_is = λ o. stays.committed_is o ∙ looks.committed_is at_b (stays.was_open o);
           };
       limit = λ working. it.limit working ∙ looks.survives.limit;
-      reason = λ clean. let at_b = it.was_clean clean in reason_raised a refused.conn b looks at_b refused.why first (told at_b) fault (it.reason clean);
+      reason = λ clean. let at_b = it.was_clean clean in
+          reason_raised a refused.conn b looks at_b refused.why first (told at_b) fault (it.reason clean);
       crash = raised_after refused.conn it.was_clean it.crash;
     }
 
     -- a database of version 1 is adopted so after a look at its version
-    pub adopted_after : (result : Result (BooksState S) (Unopened S)) → (IsTrue (state g a).is_open → IsFirstVersion (state g a).now) → (HasCleanDisk (state g b) → version_in (state g a).now.trees ≡ Some 1)
-        → IfErr result (λ refused. IsFault refused.why) → Adopts g (StoreForRefusal g asks_of_migration) b result → Adopts g (IsReasonOfKind g FirstVersion) a result
+    pub adopted_after : (result : Result (BooksState S) (Unopened S)) → (IsTrue (state g a).is_open → IsFirstVersion (state g a).now)
+        → (HasCleanDisk (state g b) → version_in (state g a).now.trees ≡ Some 1)
+        → IfErr result (λ refused. IsFault refused.why) → Adopts g (StoreForRefusal g asks_of_migration) b result
+        → Adopts g (IsReasonOfKind g FirstVersion) a result
     adopted_after (Ok books) first told fault it = record {
-      found = λ working. subst (λ db. IsFound db (tables_of g books.conn)) (looks.same refl (it.opened.was_working working).clean) (it.found working);
-      meta = λ working. subst (λ db. AreHandedOn db (meta_in (state g books.conn).now.trees)) (looks.same refl (it.opened.was_working working).clean) (it.meta working);
+      found = λ working. subst (λ db. IsFound db (tables_of g books.conn)) (looks.same refl (it.opened.was_working working).clean)
+          (it.found working);
+      meta = λ working. subst (λ db. AreHandedOn db (meta_in (state g books.conn).now.trees))
+          (looks.same refl (it.opened.was_working working).clean) (it.meta working);
       opened = opened_after books it.opened;
       why = tt;
       refused = tt;

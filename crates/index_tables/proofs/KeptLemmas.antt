@@ -20,7 +20,8 @@ use Rattle.index_sql_schema.specs.Records.{tables_in}
 use Rattle.index_tables.specs.BooksState.{HasVersion, IsHonest, BooksState, Leaves}
 use Rattle.index_tables.specs.LooksUp.{BooksStep, LooksFor, SqlLooks, WalksBooks}
 
-pub keeps : {S : Type 0} (number : ℕ) (g : Ghosts S) (old new : Held S) (did : Bool) → IsTrue did → QueriesOnly g old new did → IsHonest number (state g old) → HasCleanDisk (state g new) → IsHonest number (state g new)
+pub keeps : {S : Type 0} (number : ℕ) (g : Ghosts S) (old new : Held S) (did : Bool) → IsTrue did → QueriesOnly g old new did
+    → IsHonest number (state g old) → HasCleanDisk (state g new) → IsHonest number (state g new)
 keeps number g old new did right looks honest clean =
     let o = looks.lasts right clean honest.is_open in
     let same = looks.now_is clean o in
@@ -33,10 +34,14 @@ keeps number g old new did right looks honest clean =
     }
 
 -- a look keeps the version
-pub version_kept : {S : Type 0} (number : ℕ) (g : Ghosts S) (old new : Held S) (did : Bool) → HasVersion number g old → QueriesOnly g old new did → HasVersion number g new
-version_kept number g old new did kept looks clean o = subst (λ (d : Database). version_in d.trees ≡ Some number) (sym (looks.now_is clean o)) (kept (looks.was_clean clean) (looks.was_open clean o))
+pub version_kept : {S : Type 0} (number : ℕ) (g : Ghosts S) (old new : Held S) (did : Bool) → HasVersion number g old
+    → QueriesOnly g old new did → HasVersion number g new
+version_kept number g old new did kept looks clean o =
+    subst (λ (d : Database). version_in d.trees ≡ Some number) (sym (looks.now_is clean o))
+    (kept (looks.was_clean clean) (looks.was_open clean o))
 
-looks_back : {S : Type 0} (number : ℕ) (g : Ghosts S) (old new : Held S) (did : Bool) → QueriesOnly g old new did → IsHonest number (state g new) → IsHonest number (state g old)
+looks_back : {S : Type 0} (number : ℕ) (g : Ghosts S) (old new : Held S) (did : Bool) → QueriesOnly g old new did
+    → IsHonest number (state g new) → IsHonest number (state g old)
 looks_back number g old new did looks honest =
     let same = looks.now_is honest.clean honest.is_open in
     record {
@@ -47,15 +52,18 @@ looks_back number g old new did looks honest =
       version = subst (λ (d : Database). version_in d.trees ≡ Some number) same honest.version;
     }
 
-looks_leave : {S : Type 0} (number : ℕ) (g : Ghosts S) (old new : Held S) (did : Bool) → QueriesOnly g old new did → (T : Tables) → Leaves number (state g new) T → Leaves number (state g old) T
-looks_leave number g old new did looks T (clean, (db, may, is)) = (looks.was_clean clean, (db, before (looks.survives.crash clean db may), is))
+looks_leave : {S : Type 0} (number : ℕ) (g : Ghosts S) (old new : Held S) (did : Bool) → QueriesOnly g old new did → (T : Tables)
+    → Leaves number (state g new) T → Leaves number (state g old) T
+looks_leave number g old new did looks T (clean, (db, may, is)) =
+    (looks.was_clean clean, (db, before (looks.survives.crash clean db may), is))
   where
     before : (state g old).may_leave db ⊎ ⊥ → (state g old).may_leave db
     before (inl may) = may
     before (inr none) = absurd none
 
 -- so a look at the connection, counted, is a look at the books
-pub looks_up : {S : Type 0} (number : ℕ) (g : Ghosts S) (old new : BooksState S) (did is_store_fault : Bool) → QueriesOnly g old.conn new.conn did → new.failures ≡ next_count old.failures did
+pub looks_up : {S : Type 0} (number : ℕ) (g : Ghosts S) (old new : BooksState S) (did is_store_fault : Bool)
+    → QueriesOnly g old.conn new.conn did → new.failures ≡ next_count old.failures did
     → CountsStoreFault old.stores new.stores is_store_fault → SqlLooks number g old new did is_store_fault
 looks_up number g old new did is_store_fault looks counted stores = record {
   looks = record {
@@ -77,8 +85,10 @@ looks_up number g old new did is_store_fault looks counted stores = record {
   };
 }
 
-pub finds : {S A : Type 0} (number : ℕ) (g : Ghosts S) (old new : BooksState S) (result : Result A Fault) (Has : Tables → A → Type 0) → FindsInTables g old.conn new.conn result Has
-    → new.failures ≡ next_count old.failures (is_ok result) → CountsStoreFault old.stores new.stores (fails_by_store result) → LooksFor number g old new result Has
+pub finds : {S A : Type 0} (number : ℕ) (g : Ghosts S) (old new : BooksState S) (result : Result A Fault) (Has : Tables → A → Type 0)
+    → FindsInTables g old.conn new.conn result Has
+    → new.failures ≡ next_count old.failures (is_ok result) → CountsStoreFault old.stores new.stores (fails_by_store result)
+    → LooksFor number g old new result Has
 finds number g old new result Has it counted stores = record {
   found = λ honest. it.found honest.clean;
   looks = looks_up number g old new (is_ok result) (fails_by_store result) it.looks counted stores;
@@ -86,7 +96,8 @@ finds number g old new result Has it counted stores = record {
 }
 
 pub walks : {S K R A : Type 0} (rows_in : Tables → List R) (books : BooksStep S) (taker : TakerStep K R) (result : Result A WalkEnd)
-    → HandsRows rows_in (on_store books.store books.old.conn books.new.conn) taker result → books.new.failures ≡ next_count books.old.failures (not (has_fault result))
+    → HandsRows rows_in (on_store books.store books.old.conn books.new.conn) taker result
+    → books.new.failures ≡ next_count books.old.failures (not (has_fault result))
     → CountsStoreFault books.old.stores books.new.stores (ends_by_store result) → WalksBooks rows_in books taker result
 walks rows_in books taker result it counted stores = record {
   walked = λ honest. it.walked;

@@ -34,9 +34,12 @@ store_by fault.OutOfMemory same = absurd (let s = same in cc)
 
 module _ {S : Type 0} (number : ℕ) (g : Ghosts S) (Made : Database → Trees → Type 0) (old new : Held S) where
   -- books that are honest if the connection worked leave their tables alone
-  opened_by : IsSettled (state g new) → (HasCleanDisk (state g new) → HasCleanDisk (state g old)) → (HasCleanDisk (state g new) → IsTrue (state g new).is_open → IsTrue (state g old).is_open)
-      → (IsWorking (state g old) → HasCleanDisk (state g new) → IsHonest number (state g new)) → CrashLeavesOrMakes Made (state g old) (state g new)
-      → (IsWorking (state g new) → KeepsLimit (state g old) (state g new)) → (AreRecords (state g old).now → IsWorking (state g new) → AreRecords (state g new).now)
+  opened_by : IsSettled (state g new) → (HasCleanDisk (state g new) → HasCleanDisk (state g old))
+      → (HasCleanDisk (state g new) → IsTrue (state g new).is_open → IsTrue (state g old).is_open)
+      → (IsWorking (state g old) → HasCleanDisk (state g new) → IsHonest number (state g new))
+      → CrashLeavesOrMakes Made (state g old) (state g new)
+      → (IsWorking (state g new) → KeepsLimit (state g old) (state g new))
+      → (AreRecords (state g old).now → IsWorking (state g new) → AreRecords (state g new).now)
       → AreOpened number g Made old (record { conn = new; failures = 0; stores = 0 })
   opened_by settled was_clean was_open lasts crash limit records = record {
     was_working = λ working. record { clean = was_clean working.clean; is_open = was_open working.clean working.is_open };
@@ -55,14 +58,23 @@ module _ {S : Type 0} (number : ℕ) (g : Ghosts S) (Made : Database → Trees �
     looked_crash : CrashLeavesOrMakes Made (state g old) (state g new)
     looked_crash working clean db may = elim (looks.survives.crash clean db may) [ inl before ↦ inl before | inr none ↦ absurd none ]
 
-    pub looked_opened : IsTrue did → IsSettled (state g new) → (IsTrue (state g old).is_open → IsIndex (state g old).now) → (HasCleanDisk (state g new) → version_in (state g old).now.trees ≡ Some number)
+    pub looked_opened : IsTrue did → IsSettled (state g new) → (IsTrue (state g old).is_open → IsIndex (state g old).now)
+        → (HasCleanDisk (state g new) → version_in (state g old).now.trees ≡ Some number)
         → AreOpened number g Made old (record { conn = new; failures = 0; stores = 0 })
     looked_opened right settled index told = opened_by settled looks.was_clean looks.was_open
         (λ working clean. keeps number g old new did right looks
-        (record { clean = working.clean; is_open = working.is_open; index = index working.is_open; committed = rest.settled working.clean working.is_open; version = told clean }) clean)
-        looked_crash (λ _. looks.survives.limit) (λ records working. subst AreRecords (sym (looks.now_is working.clean working.is_open)) records)
+        (record {
+          clean = working.clean;
+          is_open = working.is_open;
+          index = index working.is_open;
+          committed = rest.settled working.clean working.is_open;
+          version = told clean;
+        }) clean)
+        looked_crash (λ _. looks.survives.limit)
+        (λ records working. subst AreRecords (sym (looks.now_is working.clean working.is_open)) records)
 
-    pub looked_refused : {Reason : Held S → Held S → OpenFault → Type 0} (why : OpenFault) → (HasCleanDisk (state g new) → Reason old new why) → IsUnopened g Made Reason old (record { why = why; conn = new })
+    pub looked_refused : {Reason : Held S → Held S → OpenFault → Type 0} (why : OpenFault)
+        → (HasCleanDisk (state g new) → Reason old new why) → IsUnopened g Made Reason old (record { why = why; conn = new })
     looked_refused why reason = record {
       outside = looks.outside rest.outside;
       was_clean = looks.was_clean;
@@ -75,23 +87,31 @@ module _ {S : Type 0} (number : ℕ) (g : Ghosts S) (Made : Database → Trees �
   -- an index is made of a database of a kind, and comes to what is made of it here
   module _ {A : Type 0} {IsKind : Database → Type 0} {change : Tables → Tables} {rows : List Row → List Row} {asks : List Ask}
       (kind : HasCleanDisk (state g old) → IsTrue (state g old).is_open → IsKind (state g old).now)
-      (tells : HasCleanDisk (state g old) → IsTrue (state g old).is_open → version_among (rows (meta_in (state g old).now.trees)) ≡ Some number)
-      (comes : IsWorking (state g old) → (db : Trees) → IsKind (state g old).now → AreCurrent number db → tables_in db ≡ change (tables_in (state g old).now.trees) → meta_in db ≡ rows (meta_in (state g old).now.trees) → Made (state g old).now db) where
-    made_crash : (result : Result A Error) → MakesIndex IsKind change rows asks (on_store g old new) result → CrashLeavesOrMakes Made (state g old) (state g new)
+      (tells : HasCleanDisk (state g old) → IsTrue (state g old).is_open
+      → version_among (rows (meta_in (state g old).now.trees)) ≡ Some number)
+      (comes : IsWorking (state g old) → (db : Trees) → IsKind (state g old).now → AreCurrent number db
+      → tables_in db ≡ change (tables_in (state g old).now.trees) → meta_in db ≡ rows (meta_in (state g old).now.trees)
+      → Made (state g old).now db) where
+    made_crash : (result : Result A Error) → MakesIndex IsKind change rows asks (on_store g old new) result
+        → CrashLeavesOrMakes Made (state g old) (state g new)
     made_crash result it working clean db may =
         let fit = kind working.clean working.is_open in
         elim ((it.crash working.is_open fit).crash clean db may) [
           | inl before ↦ inl before
-          | inr made ↦ inr (comes working db fit (record { index = made.2; version = ap version_among made.1 ∙ tells working.clean working.is_open }) made.0 made.1)
+          | inr made ↦ inr (comes working db fit
+              (record { index = made.2; version = ap version_among made.1 ∙ tells working.clean working.is_open }) made.0 made.1)
         ]
 
-    made_limit : (result : Result A Error) → MakesIndex IsKind change rows asks (on_store g old new) result → IsWorking (state g new) → KeepsLimit (state g old) (state g new)
+    made_limit : (result : Result A Error) → MakesIndex IsKind change rows asks (on_store g old new) result → IsWorking (state g new)
+        → KeepsLimit (state g old) (state g new)
     made_limit result it working =
         let was = it.was_open working.clean working.is_open in
         (it.crash was (kind (it.was_clean working.clean) was)).limit
 
-    pub made_opened : (done : A) → MakesIndex IsKind change rows asks (on_store g old new) (Ok done) → IsSettled (state g new) → AreOpened number g Made old (record { conn = new; failures = 0; stores = 0 })
-    made_opened done it settled = opened_by settled it.was_clean it.was_open honest (made_crash (Ok done) it) (made_limit (Ok done) it) records
+    pub made_opened : (done : A) → MakesIndex IsKind change rows asks (on_store g old new) (Ok done) → IsSettled (state g new)
+        → AreOpened number g Made old (record { conn = new; failures = 0; stores = 0 })
+    made_opened done it settled = opened_by settled it.was_clean it.was_open honest (made_crash (Ok done) it) (made_limit (Ok done) it)
+        records
       where
         records : AreRecords (state g old).now → IsWorking (state g new) → AreRecords (state g new).now
         records were working =
@@ -101,10 +121,18 @@ module _ {S : Type 0} (number : ℕ) (g : Ghosts S) (Made : Database → Trees �
         honest : IsWorking (state g old) → HasCleanDisk (state g new) → IsHonest number (state g new)
         honest working clean =
             let made = it.made clean working.is_open (kind working.clean working.is_open) in
-            record { clean = clean; is_open = made.is_open; index = made.index; committed = sym made.committed; version = ap version_among made.meta ∙ tells working.clean working.is_open }
+            record {
+              clean = clean;
+              is_open = made.is_open;
+              index = made.index;
+              committed = sym made.committed;
+              version = ap version_among made.meta ∙ tells working.clean working.is_open;
+            }
 
-    pub made_refused : {Reason : Held S → Held S → OpenFault → Type 0} (e : Error) → MakesIndex {A = A} IsKind change rows asks (on_store g old new) (Err e) → IsAtRest g old
-        → (why : OpenFault) → why ≡ open_fault_by (fault_by e) → (StoreForRefusal g asks old new why → Reason old new why) → IsUnopened g Made Reason old (record { why = why; conn = new })
+    pub made_refused : {Reason : Held S → Held S → OpenFault → Type 0} (e : Error)
+        → MakesIndex {A = A} IsKind change rows asks (on_store g old new) (Err e) → IsAtRest g old
+        → (why : OpenFault) → why ≡ open_fault_by (fault_by e) → (StoreForRefusal g asks old new why → Reason old new why)
+        → IsUnopened g Made Reason old (record { why = why; conn = new })
     made_refused e it rest why is weaker =
         let fit = λ (clean : HasCleanDisk (state g new)) (o : IsTrue (state g old).is_open). kind (it.was_clean clean) o in
         record {
@@ -112,7 +140,8 @@ module _ {S : Type 0} (number : ℕ) (g : Ghosts S) (Made : Database → Trees �
           was_clean = it.was_clean;
           stays = λ clean. record {
             was_open = it.was_open clean;
-            now_is = λ o. let was = it.was_open clean o in (it.unchanged clean o (fit clean was)).0 ∙ sym (rest.settled (it.was_clean clean) was);
+            now_is = λ o. let was = it.was_open clean o in
+                (it.unchanged clean o (fit clean was)).0 ∙ sym (rest.settled (it.was_clean clean) was);
             committed_is = λ o. (it.unchanged clean o (fit clean (it.was_open clean o))).1;
           };
           limit = made_limit (Err e) it;
@@ -121,12 +150,14 @@ module _ {S : Type 0} (number : ℕ) (g : Ghosts S) (Made : Database → Trees �
         }
 
 -- the connection is then one to an index
-pub made_index : {S A : Type 0} (g : Ghosts S) {IsKind : Database → Type 0} {change : Tables → Tables} {rows : List Row → List Row} {asks : List Ask} (old new : Held S)
+pub made_index : {S A : Type 0} (g : Ghosts S) {IsKind : Database → Type 0} {change : Tables → Tables} {rows : List Row
+    → List Row} {asks : List Ask} (old new : Held S)
     → (HasCleanDisk (state g old) → IsTrue (state g old).is_open → IsKind (state g old).now)
     → (done : A) → MakesIndex IsKind change rows asks (on_store g old new) (Ok done) → IsIndexConnection g new
 made_index g old new kind done it =
     let was = λ (clean : HasCleanDisk (state g new)) (o : IsTrue (state g new).is_open). it.was_open clean o in
-    let made = λ (clean : HasCleanDisk (state g new)) (o : IsTrue (state g new).is_open). it.made clean (was clean o) (kind (it.was_clean clean) (was clean o)) in
+    let made = λ (clean : HasCleanDisk (state g new)) (o : IsTrue (state g new).is_open). it.made clean (was clean o)
+    (kind (it.was_clean clean) (was clean o)) in
     record {
       outside = it.outside;
       index = λ clean o. (made clean o).index;
@@ -134,7 +165,8 @@ made_index g old new kind done it =
     }
 
 -- and its version is the one that is made
-pub made_version : {S A : Type 0} (number : ℕ) (g : Ghosts S) {IsKind : Database → Type 0} {change : Tables → Tables} {rows : List Row → List Row} {asks : List Ask} (old new : Held S)
+pub made_version : {S A : Type 0} (number : ℕ) (g : Ghosts S) {IsKind : Database → Type 0} {change : Tables → Tables} {rows : List Row
+    → List Row} {asks : List Ask} (old new : Held S)
     → (HasCleanDisk (state g old) → IsTrue (state g old).is_open → IsKind (state g old).now)
     → (HasCleanDisk (state g old) → IsTrue (state g old).is_open → version_among (rows (meta_in (state g old).now.trees)) ≡ Some number)
     → (done : A) → MakesIndex IsKind change rows asks (on_store g old new) (Ok done) → HasVersion number g new
@@ -143,7 +175,8 @@ made_version number g old new kind tells done it clean o =
     ap version_among (it.made clean was (kind (it.was_clean clean) was)).meta ∙ tells (it.was_clean clean) was
 
 -- a connection that is refused at once is as it was
-pub refused_at_once : {S : Type 0} (g : Ghosts S) {Made : Database → Trees → Type 0} {Reason : Held S → Held S → OpenFault → Type 0} (held : Held S) (why : OpenFault) → held.in_transaction ≡ false → (HasCleanDisk (state g held) → Reason held held why)
+pub refused_at_once : {S : Type 0} (g : Ghosts S) {Made : Database → Trees → Type 0} {Reason : Held S → Held S → OpenFault
+    → Type 0} (held : Held S) (why : OpenFault) → held.in_transaction ≡ false → (HasCleanDisk (state g held) → Reason held held why)
     → IsUnopened g Made Reason held (record { why = why; conn = held })
 refused_at_once g held why outside reason = record {
   outside = outside;
@@ -155,8 +188,10 @@ refused_at_once g held why outside reason = record {
 }
 
 -- a reason of one kind is one of another
-pub unopened_by : {S : Type 0} (g : Ghosts S) {Made : Database → Trees → Type 0} {Reason Other : Held S → Held S → OpenFault → Type 0} (held : Held S) (refused : Unopened S)
-    → (Reason held refused.conn refused.why → Other held refused.conn refused.why) → IsUnopened g Made Reason held refused → IsUnopened g Made Other held refused
+pub unopened_by : {S : Type 0} (g : Ghosts S) {Made : Database → Trees → Type 0} {Reason Other : Held S → Held S → OpenFault
+    → Type 0} (held : Held S) (refused : Unopened S)
+    → (Reason held refused.conn refused.why → Other held refused.conn refused.why) → IsUnopened g Made Reason held refused
+    → IsUnopened g Made Other held refused
 unopened_by g held refused weaker it = record {
   outside = it.outside;
   was_clean = it.was_clean;
@@ -167,5 +202,6 @@ unopened_by g held refused weaker it = record {
 }
 
 -- what is made of an empty database, with another name for its version
-pub named_version : {S A : Type 0} {step : ConnectionStep S} {result : Result A Error} {told number : ℕ} (user : Bytes) (account : UserRecord) → told ≡ number → MakesNewIndex told user account step result → MakesNewIndex number user account step result
+pub named_version : {S A : Type 0} {step : ConnectionStep S} {result : Result A Error} {told number : ℕ} (user : Bytes)
+    (account : UserRecord) → told ≡ number → MakesNewIndex told user account step result → MakesNewIndex number user account step result
 named_version {S} {A} {step} {result} user account same made = subst (λ version. MakesNewIndex version user account step result) same made

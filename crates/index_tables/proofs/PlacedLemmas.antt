@@ -16,7 +16,8 @@ index_tells : (db : Database) → IsIndex db → has_meta db.schema ≡ true
 unfolding same_name
 index_tells db h = rw h.schema refl
 
-pub refused_unlike : {S : Type 0} (g : Ghosts S) (old new : Held S) (why : OpenFault) → has_meta (state g old).now.schema ≡ false → RefusesPlaced g old new why
+pub refused_unlike : {S : Type 0} (g : Ghosts S) (old new : Held S) (why : OpenFault) → has_meta (state g old).now.schema ≡ false
+    → RefusesPlaced g old new why
 refused_unlike g old new why none o (index, told) = absurd (true≢false (sym (index_tells (state g old).now index) ∙ none))
 
 module _ {S : Type 0} (g : Ghosts S) (old new : Held S) (version : Option ℕ) (why : OpenFault) (is : why ≡ placed_refusal version) where
@@ -27,4 +28,5 @@ module _ {S : Type 0} (g : Ghosts S) (old new : Held S) (version : Option ℕ) (
   -- by what the query of the version shows
   pub refused_shown : VersionQueryShows g (begun old) version → RefusesPlaced g old new why
   refused_shown tells o (index, told) =
-      inr (is ∙ ap placed_refusal (tells.first ∙ selects (state g (begun old)) (state g tells.after) tells.rows (inl index) tells.shown ∙ told))
+      inr (is ∙ ap placed_refusal (tells.first ∙ selects (state g (begun old)) (state g tells.after) tells.rows (inl index) tells.shown
+      ∙ told))

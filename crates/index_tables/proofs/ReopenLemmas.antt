@@ -43,7 +43,8 @@ schema_found : (db : Database) → IsDatabase db → HoldsIndex db.trees → db.
 schema_found db sound held = lists_once (db.trees catalog_tree) db.schema index_schema sound.lists held.sound.lists
 
 index_found : (db : Database) → IsDatabase db → HoldsIndex db.trees → IsIndex db
-index_found db sound held = subst (λ (s : Schema). IsIndex (record { schema = s; trees = db.trees })) (sym (schema_found db sound held)) held
+index_found db sound held = subst (λ (s : Schema). IsIndex (record { schema = s; trees = db.trees })) (sym (schema_found db sound held))
+    held
 
 not_first : index_schema ≡ first_version_schema → ⊥
 not_first same = let counts : 9 ≡ 8 = ap (λ (s : Schema). length s.tables) same in absurd (omega (arith, counts))
@@ -108,7 +109,8 @@ OpensIf g Are (Err refused) = HasCleanDisk (state g refused.conn) → IsFault re
 
 -- ---- what `adopt` says of a connection, and what it was opened over
 
-module _ {D S : Type 0} {d : disk.Ghosts D} (g : Ghosts S) (old : Held (FileStore D d)) (conn : Held S) (image : Image) (over : IsOver image (state g conn)) where
+module _ {D S : Type 0} {d : disk.Ghosts D} (g : Ghosts S) (old : Held (FileStore D d)) (conn : Held S) (image : Image)
+    (over : IsOver image (state g conn)) where
   abbrev found : Trees
   found = (state g conn).now.trees
 
@@ -125,9 +127,11 @@ module _ {D S : Type 0} {d : disk.Ghosts D} (g : Ghosts S) (old : Held (FileStor
   Finds result = IfOk result (λ books. IsWorking (state g books.conn) → IsFound (state g conn).now (tables_of g books.conn))
 
   abbrev Again : Result (BooksState S) (Unopened S) → Type 0
-  Again result = IfErr result (λ refused. HasCleanDisk (state g refused.conn) → IsTrue (state g conn).is_open → IsOurs (state g conn).now → IsFault refused.why)
+  Again result = IfErr result (λ refused. HasCleanDisk (state g refused.conn) → IsTrue (state g conn).is_open → IsOurs (state g conn).now
+      → IsFault refused.why)
 
-  opens_same : AreCurrent 2 found → (result : Result (BooksState S) (Unopened S)) → Finds result → Again result → OpensIf g (λ T. T ≡ tables_in found) result
+  opens_same : AreCurrent 2 found → (result : Result (BooksState S) (Unopened S)) → Finds result → Again result
+      → OpensIf g (λ T. T ≡ tables_in found) result
   opens_same cur (Ok books) finds again = λ honest. tables_found (state g conn).now (tables_of g books.conn) sound (finds honest) cur
   opens_same cur (Err refused) finds again = λ clean. again clean is_open (ours (state g conn).now sound cur)
 
@@ -135,10 +139,12 @@ module _ {D S : Type 0} {d : disk.Ghosts D} (g : Ghosts S) (old : Held (FileStor
     -- what is found is what a crash may leave
     found_left : MayLeave old image → ∥ (file_state old).may_leave found ∥₁
     found_left may =
-        subst (λ (db : Trees). ∥ (file_state old).may_leave db ∥₁) committed_found (next_run old.store numbered databases image may (state g conn) over.found)
+        subst (λ (db : Trees). ∥ (file_state old).may_leave db ∥₁) committed_found
+        (next_run old.store numbered databases image may (state g conn) over.found)
 
     -- at rest an honest index leaves itself
-    pub opens_rest : IsHonest 2 (file_state old) → IsSettled (file_state old) → IsLeft old image → (result : Result (BooksState S) (Unopened S)) → Finds result → Again result → OpensIf g (λ T. T ≡ tables_of over_files old) result
+    pub opens_rest : IsHonest 2 (file_state old) → IsSettled (file_state old) → IsLeft old image
+        → (result : Result (BooksState S) (Unopened S)) → Finds result → Again result → OpensIf g (λ T. T ≡ tables_of over_files old) result
     opens_rest honest rests left result finds again =
         let committed : found ≡ (file_state old).committed.trees = elim left [
           | inl may ↦ ∥∥₁_elim (found_left may) (Trees-set _ _) (rests found honest.is_open)
@@ -149,20 +155,32 @@ module _ {D S : Type 0} {d : disk.Ghosts D} (g : Ghosts S) (old : Held (FileStor
         (opens_same (subst (AreCurrent 2) (sym at) (current 2 (file_state old) honest)) result finds again)
 
     -- during a change it leaves one of two
-    pub opens_either : (A B : Tables) → HasCleanDisk (file_state old) → ((T : Tables) → Leaves 2 (file_state old) T → IsEither A B T) → MayLeave old image
+    pub opens_either : (A B : Tables) → HasCleanDisk (file_state old) → ((T : Tables) → Leaves 2 (file_state old) T → IsEither A B T)
+        → MayLeave old image
         → (result : Result (BooksState S) (Unopened S)) → Finds result → Again result → OpensIf g (λ T. ∥ IsEither A B T ∥₁) result
     opens_either A B clean left may (Ok books) finds again =
-        λ honest. ∥∥₁_map (found_left may) (λ can. left (tables_of g books.conn) (clean, (found, can, tables_found (state g conn).now (tables_of g books.conn) sound (finds honest))))
+        λ honest. ∥∥₁_map (found_left may) (λ can. left (tables_of g books.conn) (
+          clean,
+          (found, can, tables_found (state g conn).now (tables_of g books.conn) sound (finds honest)),
+        ))
     opens_either A B clean left may (Err refused) finds again = λ unread. elim (fault_or refused.why) [
       | inl fault ↦ fault
       | inr other ↦ absurd (∥∥₁_elim (found_left may) (λ x. absurd x)
-          (λ can. not_all A B (λ T. left T (clean, (found, can, λ cur. absurd (other (again unread is_open (ours (state g conn).now sound cur))))))))
+          (λ can. not_all A B (λ T. left T (
+            clean,
+            (found, can, λ cur. absurd (other (again unread is_open (ours (state g conn).now sound cur)))),
+          ))))
     ]
 
 -- the same, of a connection that is over the files as far as its disk is clean
-module _ {S : Type 0} (g : Ghosts S) (conn : Held S) (image : Image) (over : HasCleanDisk (state g conn) → IsOver image (state g conn)) (Are : Tables → Type 0) where
-  pub opens_if_clean : (Made : Database → Trees → Type 0) (Reason : Held S → Held S → OpenFault → Type 0) (result : Result (BooksState S) (Unopened S)) → IfOk result (AreOpened 2 g Made conn) → IfErr result (IsUnopened g Made Reason conn)
+module _ {S : Type 0} (g : Ghosts S) (conn : Held S) (image : Image) (over : HasCleanDisk (state g conn)
+    → IsOver image (state g conn)) (Are : Tables → Type 0) where
+  pub opens_if_clean : (Made : Database → Trees → Type 0) (Reason : Held S → Held S → OpenFault
+      → Type 0) (result : Result (BooksState S) (Unopened S)) → IfOk result (AreOpened 2 g Made conn)
+      → IfErr result (IsUnopened g Made Reason conn)
       → (IsOver image (state g conn) → OpensIf g Are result) → OpensOnly g Are result
   opens_if_clean Made Reason (Ok books) opened refused opens =
-      λ clean. let before = opened.was_clean clean in let it = over before in let honest = opened.lasts (record { clean = before; is_open = it.opened.0.is_open }) clean in (honest, opens it (record { clean = clean; is_open = honest.is_open }))
+      λ clean. let before = opened.was_clean clean in let it = over before in let honest =
+      opened.lasts (record { clean = before; is_open = it.opened.0.is_open }) clean in
+      (honest, opens it (record { clean = clean; is_open = honest.is_open }))
   opens_if_clean Made Reason (Err it) opened refused opens = λ clean. opens (over (refused.was_clean clean)) clean

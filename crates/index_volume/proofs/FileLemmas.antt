@@ -32,12 +32,14 @@ added_taken at [] file holds = refl
 added_taken at (x ∷ bytes) file holds = held_taken at (x ∷ bytes) file (holds (omega arith))
 
 -- and the file is as long
-pub added_long : (at : ℕ) (bytes old file : List ℕ) → at ≤ length old → Torn at (length bytes) old file → (0 < length bytes → Holds file at bytes) → at + length bytes ≤ length file
+pub added_long : (at : ℕ) (bytes old file : List ℕ) → at ≤ length old → Torn at (length bytes) old file
+    → (0 < length bytes → Holds file at bytes) → at + length bytes ≤ length file
 added_long at [] old file within torn holds = omega (arith, torn.no_shorter, within)
 added_long at (x ∷ bytes) old file within torn holds = (holds (omega arith)).within
 
 -- after a write at the end, a crash leaves what lies below
-pub kept_torn : (end n : ℕ) (old new : List ℕ) (before after : List ℕ → Type 0) → Keeps end old before → Torn end n old new → Follows (Torn end n) before after → Keeps end new after
+pub kept_torn : (end n : ℕ) (old new : List ℕ) (before after : List ℕ → Type 0) → Keeps end old before → Torn end n old new
+    → Follows (Torn end n) before after → Keeps end new after
 kept_torn end n old new before after kept torn follows =
     let front : take end new ≡ take end old = front_torn end n old new kept.long torn in
     record {
@@ -53,18 +55,21 @@ pub kept_only : (end : ℕ) (file : List ℕ) (leaves : List ℕ → Type 0) →
 kept_only end file leaves within only = record { long = within; left = λ c left. ap (take end) (only c left) }
 
 -- fewer outcomes keep as much
-pub kept_fewer : (end : ℕ) (file : List ℕ) (before after : List ℕ → Type 0) → Keeps end file before → ((c : List ℕ) → after c → before c) → Keeps end file after
+pub kept_fewer : (end : ℕ) (file : List ℕ) (before after : List ℕ → Type 0) → Keeps end file before → ((c : List ℕ) → after c → before c)
+    → Keeps end file after
 kept_fewer end file before after kept fewer = record { long = kept.long; left = λ c left. kept.left c (fewer c left) }
 
 -- what lies at a place below the end is the same if the fronts are
-pub same_place : (end at size : ℕ) (c d : List ℕ) → at + size ≤ end → take end c ≡ take end d → take size (drop at c) ≡ take size (drop at d)
+pub same_place : (end at size : ℕ) (c d : List ℕ) → at + size ≤ end → take end c ≡ take end d
+    → take size (drop at c) ≡ take size (drop at d)
 same_place end at size c d within same =
     sym (drop-take at size c)
     ∙ ap (drop at) (sym (take-take (at + size) end c within) ∙ ap (take (at + size)) same ∙ take-take (at + size) end d within)
     ∙ drop-take at size d
 
 -- a file that reads the same, of which a crash leaves no more, keeps as much
-pub kept_moved : (end : ℕ) (old new : List ℕ) (before after : List ℕ → Type 0) → Keeps end old before → new ≡ old → ((c : List ℕ) → after c → before c) → Keeps end new after
+pub kept_moved : (end : ℕ) (old new : List ℕ) (before after : List ℕ → Type 0) → Keeps end old before → new ≡ old
+    → ((c : List ℕ) → after c → before c) → Keeps end new after
 kept_moved end old new before after kept is fewer = record {
   long = subst (λ s. end ≤ length s) (sym is) kept.long;
   left = λ c left. kept.left c (fewer c left) ∙ ap (take end) (sym is);

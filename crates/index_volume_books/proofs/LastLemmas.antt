@@ -1,5 +1,6 @@
 -- The entry of `bodies` whose place ends last.
-use Rattle.std.proofs.Common.{◌≡◌, ◌==◌, ◌<◌, ◌≤◌, ℕ, Bool, true, false, not, cond, nat_lt, length, List, [], ◌∷◌, find, Some, None, option_map, refl, sym, ap, subst, ◌∙◌, arith, inl, inr}
+use Rattle.std.proofs.Common.{◌≡◌, ◌==◌, ◌<◌, ◌≤◌, ℕ, Bool, true, false, not, cond, nat_lt, length, List, [], ◌∷◌, find, Some, None}
+use Rattle.std.proofs.Common.{option_map, refl, sym, ap, subst, ◌∙◌, arith, inl, inr}
 use Rattle.std.proofs.lemmas.Bool.{and_parts, cases_Bool, eqb-true, false≢true, le-ltb, lt-ltb, ltb-false, ltb-true}
 use Rattle.std.specs.FinMap.{entries, get}
 use Rattle.index_rules.specs.Maps.{Bytes}
@@ -34,21 +35,26 @@ skipped : (p : Bytes × Bytes → Bool) (e : Bytes × Bytes) (es : List (Bytes �
 skipped p e es fails = rw fails refl
 
 -- the last of a list is that of the list behind an entry that ends before it
-behind_earlier : (last e : Bytes × Bytes) (es : List (Bytes × Bytes)) → IsLastOf last es → place_end e.1 < place_end last.1 → IsLastOf last (e ∷ es)
+behind_earlier : (last e : Bytes × Bytes) (es : List (Bytes × Bytes)) → IsLastOf last es → place_end e.1 < place_end last.1
+    → IsLastOf last (e ∷ es)
 behind_earlier last e es is less = record {
   first = skipped (reaches (place_end last.1)) e es (ap not (lt-ltb (place_end e.1) (place_end last.1) less)) ∙ is.first;
   none = skipped (behind (place_end last.1)) e es (le-ltb (place_end last.1) (place_end e.1) (omega (arith, less))) ∙ is.none;
 }
 
 -- the last of a list that begins with an entry is that of the list with one more behind this entry, which ends no later than it
-behind_first : (last l e : Bytes × Bytes) (es : List (Bytes × Bytes)) → IsLastOf last (l ∷ es) → place_end e.1 ≤ place_end l.1 → IsLastOf last (l ∷ e ∷ es)
+behind_first : (last l e : Bytes × Bytes) (es : List (Bytes × Bytes)) → IsLastOf last (l ∷ es) → place_end e.1 ≤ place_end l.1
+    → IsLastOf last (l ∷ e ∷ es)
 behind_first last l e es is less = elim (cases_Bool (reaches (place_end last.1) l)) [
   | inl here ↦ record {
-    first = (let was : find (reaches (place_end last.1)) (l ∷ es) ≡ Some l = rw here refl in let now : find (reaches (place_end last.1)) (l ∷ e ∷ es) ≡ Some l = rw here refl in now ∙ sym was ∙ is.first);
+    first = (let was : find (reaches (place_end last.1)) (l ∷ es) ≡ Some l = rw here refl in
+        let now : find (reaches (place_end last.1)) (l ∷ e ∷ es) ≡ Some l = rw here refl in now ∙ sym was ∙ is.first);
     none = none;
   }
   | inr past ↦ record {
-    first = skipped (reaches (place_end last.1)) l (e ∷ es) past ∙ skipped (reaches (place_end last.1)) e es (ap not (lt-ltb (place_end e.1) (place_end last.1) (omega (arith, less, before past)))) ∙ sym (skipped (reaches (place_end last.1)) l es past) ∙ is.first;
+    first = skipped (reaches (place_end last.1)) l (e ∷ es) past
+        ∙ skipped (reaches (place_end last.1)) e es (ap not (lt-ltb (place_end e.1) (place_end last.1) (omega (arith, less, before past))))
+        ∙ sym (skipped (reaches (place_end last.1)) l es past) ∙ is.first;
     none = none;
   }
 ]
@@ -74,17 +80,22 @@ last_of_one l =
     let same : nat_lt (place_end l.1) (place_end l.1) ≡ false = le-ltb (place_end l.1) (place_end l.1) (omega arith) in
     record { first = rw same refl; none = rw same refl }
 
-last_of : (l : Bytes × Bytes) (es : List (Bytes × Bytes)) → (last : Bytes × Bytes) × (last_from (Some l) es ≡ Some last) × IsLastOf last (l ∷ es)
+last_of : (l : Bytes × Bytes) (es : List (Bytes × Bytes))
+    → (last : Bytes × Bytes) × (last_from (Some l) es ≡ Some last) × IsLastOf last (l ∷ es)
 last_of l [] = (l, refl, last_of_one l)
 last_of l (e ∷ es) = elim (cases_Bool (nat_lt (place_end l.1) (place_end e.1))) [
   | inl less ↦
       let it = last_of e es in
       let low : place_end l.1 < place_end e.1 = ltb-true (place_end l.1) (place_end e.1) less in
-      let high : place_end e.1 ≤ place_end it.0.1 = ltb-false (place_end it.0.1) (place_end e.1) (head_missed (behind (place_end it.0.1)) e es it.2.none) in
+      let high : place_end e.1 ≤ place_end it.0.1 =
+      ltb-false (place_end it.0.1) (place_end e.1) (head_missed (behind (place_end it.0.1)) e es it.2.none) in
       (it.0, ap (λ b. last_from (cond b (Some e) (Some l)) es) less ∙ it.1, behind_earlier it.0 l (e ∷ es) it.2 (omega (arith, low, high)))
   | inr more ↦
-      let it = last_of l es in
-      (it.0, ap (λ b. last_from (cond b (Some e) (Some l)) es) more ∙ it.1, behind_first it.0 l e es it.2 (ltb-false (place_end l.1) (place_end e.1) more))
+      let it = last_of l es in (
+        it.0,
+        ap (λ b. last_from (cond b (Some e) (Some l)) es) more ∙ it.1,
+        behind_first it.0 l e es it.2 (ltb-false (place_end l.1) (place_end e.1) more),
+      )
 ]
 
 -- ---- texts of the length of a place
@@ -102,14 +113,18 @@ not_false : (b : Bool) → not b ≡ false → b ≡ true
 not_false true e = refl
 not_false false e = absurd (false≢true (sym e))
 
-has_length : (T : Tables) → are_places (entries T.bodies) ≡ true → (file place : Bytes) → get T.bodies file ≡ Some place → length place ≡ place_length
+has_length : (T : Tables) → are_places (entries T.bodies) ≡ true → (file place : Bytes) → get T.bodies file ≡ Some place
+    → length place ≡ place_length
 has_length T are file place at =
-    eqb-true (length place) place_length (not_false (length place == place_length) (get-missed T.bodies is_other_length file place (no_other_length (entries T.bodies) are) at))
+    eqb-true (length place) place_length (not_false (length place == place_length)
+    (get-missed T.bodies is_other_length file place (no_other_length (entries T.bodies) are) at))
 
 -- ---- the last of the entries of `bodies`
 
-is_last_of : (T : Tables) (es : List (Bytes × Bytes)) → entries T.bodies ≡ es → are_places (entries T.bodies) ≡ true → IsLast T (option_map (λ e. e.0) (last_from None es))
-is_last_of T [] is are = λ file place at. absurd (false≢true (sym (get-missed T.bodies (λ _. true) file place (ap (find (λ _. true)) is) at)))
+is_last_of : (T : Tables) (es : List (Bytes × Bytes)) → entries T.bodies ≡ es → are_places (entries T.bodies) ≡ true
+    → IsLast T (option_map (λ e. e.0) (last_from None es))
+is_last_of T [] is are = λ file place at. absurd
+    (false≢true (sym (get-missed T.bodies (λ _. true) file place (ap (find (λ _. true)) is) at)))
 is_last_of T (l ∷ es) is are =
     let it = last_of l es in
     let last : (place : Bytes) × (get T.bodies it.0.0 ≡ Some place) × Fits (place_end place) T = (
@@ -117,7 +132,8 @@ is_last_of T (l ∷ es) is are =
       get-found T.bodies (reaches (place_end it.0.1)) it.0 (ap (find (reaches (place_end it.0.1))) is ∙ it.2.first),
       λ file place at. record {
         size = has_length T are file place at;
-        within = ltb-false (place_end it.0.1) (place_end place) (get-missed T.bodies (behind (place_end it.0.1)) file place (ap (find (behind (place_end it.0.1))) is ∙ it.2.none) at);
+        within = ltb-false (place_end it.0.1) (place_end place)
+            (get-missed T.bodies (behind (place_end it.0.1)) file place (ap (find (behind (place_end it.0.1))) is ∙ it.2.none) at);
       },
     )
     in

@@ -50,7 +50,8 @@ over_means volume place body (change.Claim _ _ _) T is = refl
 over_means volume place body (change.AddOwner _ _) T is = refl
 over_means volume place body (change.RemoveOwner _ _) T is = refl
 over_means volume place body (change.Upload name project file known _ ends) T is =
-    ap (λ m. record (means (change.Upload name project file known body ends) T) { bodies = m }) (put_changed (bytes_at volume) T.bodies file place ∙ ap (insert (change_values (bytes_at volume) T.bodies) file) (is refl))
+    ap (λ m. record (means (change.Upload name project file known body ends) T) { bodies = m })
+    (put_changed (bytes_at volume) T.bodies file place ∙ ap (insert (change_values (bytes_at volume) T.bodies) file) (is refl))
 over_means volume place body (change.Delete name project file known) T is =
     ap (λ m. record (means (change.Delete name project file known) T) { bodies = m }) (without_changed (bytes_at volume) T.bodies file)
 over_means volume place body (change.BanFile name project file known) T is =
@@ -59,7 +60,8 @@ over_means volume place body (change.Yank _ _ _) T is = refl
 over_means volume place body (change.Unyank _ _) T is = refl
 over_means volume place body (change.Relinquish _) T is = refl
 over_means volume place body (change.Prohibit name) T is =
-    ap (λ m. record (means (change.Prohibit name) T) { bodies = m }) (kept_changed (bytes_at volume) T.bodies (λ file. not (is_file_of T.files name file)))
+    ap (λ m. record (means (change.Prohibit name) T) { bodies = m })
+    (kept_changed (bytes_at volume) T.bodies (λ file. not (is_file_of T.files name file)))
 over_means volume place body (change.Allow _) T is = refl
 over_means volume place body (change.OpenCase _ _) T is = refl
 over_means volume place body (change.RecordAttempt _ _) T is = refl
@@ -101,13 +103,15 @@ fits_means end place (change.SetQuota _ _) T fits new = fits
 fits_means end place (change.Claim _ _ _) T fits new = fits
 fits_means end place (change.AddOwner _ _) T fits new = fits
 fits_means end place (change.RemoveOwner _ _) T fits new = fits
-fits_means end place (change.Upload name project file known _ ends) T fits new = each_of_put (LiesBelow end) T.bodies fits file place (new refl)
+fits_means end place (change.Upload name project file known _ ends) T fits new =
+    each_of_put (LiesBelow end) T.bodies fits file place (new refl)
 fits_means end place (change.Delete name project file known) T fits new = each_of_rest (LiesBelow end) T.bodies fits file
 fits_means end place (change.BanFile name project file known) T fits new = each_of_rest (LiesBelow end) T.bodies fits file
 fits_means end place (change.Yank _ _ _) T fits new = fits
 fits_means end place (change.Unyank _ _) T fits new = fits
 fits_means end place (change.Relinquish _) T fits new = fits
-fits_means end place (change.Prohibit name) T fits new = each_of_kept (LiesBelow end) T.bodies fits (λ file. not (is_file_of T.files name file))
+fits_means end place (change.Prohibit name) T fits new =
+    each_of_kept (LiesBelow end) T.bodies fits (λ file. not (is_file_of T.files name file))
 fits_means end place (change.Allow _) T fits new = fits
 fits_means end place (change.OpenCase _ _) T fits new = fits
 fits_means end place (change.RecordAttempt _ _) T fits new = fits

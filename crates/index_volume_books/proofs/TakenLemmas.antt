@@ -1,5 +1,6 @@
 -- Books and a volume that are taken together, or not.
-use Rattle.std.proofs.Common.{◌≡◌, ◌≢◌, ◌∙◌, ap, refl, sym, subst, subst₂, ℕ, ◌≤◌, ◌<◌, true, List, IsTrue, Option, Some, None, option_map, is_some, Result, Ok, Err, length, take, arith}
+use Rattle.std.proofs.Common.{◌≡◌, ◌≢◌, ◌∙◌, ap, refl, sym, subst, subst₂, ℕ, ◌≤◌, ◌<◌, true, List, IsTrue, Option, Some, None, option_map}
+use Rattle.std.proofs.Common.{is_some, Result, Ok, Err, length, take, arith}
 use Rattle.std.proofs.lemmas.Bool.{false≢true}
 use Rattle.std.specs.FinMap.{get}
 use Rattle.std.specs.Result.{IfErr, OnOk}
@@ -40,7 +41,8 @@ module _ (end : ℕ) (last : Bytes) (old new : Side) (settled : AreSettled old n
   same_text stored place is at = let both : Some stored ≡ Some place = is ∙ at in cc
 
   -- a look that found something, and the bytes at its place
-  pub looks_with : (stored digest : Bytes) (r : Result (Unit {0}) TakeFault) → (old.IsHonest → new.IsClean → new.IsHonest) → ((T : Tables) → new.books_leave T → new.IsHonest)
+  pub looks_with : (stored digest : Bytes) (r : Result (Unit {0}) TakeFault) → (old.IsHonest → new.IsClean → new.IsHonest)
+      → ((T : Tables) → new.books_leave T → new.IsHonest)
       → (new.IsHonest → Some stored ≡ get old.tables.bodies last) → (new.IsHonest → IsDigestOf old.tables last digest)
       → OnOk r (LiesBelow end stored) → IfErr r (λ why. why ≡ fault.TooShort → end < place_end stored)
       → OnOk r (IsTrue new.is_clean → sha256 (bytes_at old.volume stored) ≡ digest)
@@ -51,7 +53,8 @@ module _ (end : ℕ) (last : Bytes) (old new : Side) (settled : AreSettled old n
     lasts = lasts;
     works = works;
     below = λ h place at. subst (LiesBelow end) (same_text stored place (found h) at) below;
-    own = λ both place at known same. ap (λ text. sha256 (bytes_at old.volume text)) (sym (same_text stored place (found both.0) at)) ∙ own both.1 ∙ digest_is both.0 known same;
+    own = λ both place at known same. ap (λ text. sha256 (bytes_at old.volume text)) (sym (same_text stored place (found both.0) at))
+        ∙ own both.1 ∙ digest_is both.0 known same;
     short = tt;
     other = tt;
   }
@@ -79,9 +82,11 @@ module _ (end : ℕ) (last : Bytes) (old new : Side) (settled : AreSettled old n
 
 -- ---- what fits, and what does not
 
-module _ (end : ℕ) (old mid : Side) (settled : AreSettled old mid) (end_is : IsTrue mid.is_clean → end ≡ length old.volume) (only : Only old.volume mid.volume_leaves) where
+module _ (end : ℕ) (old mid : Side) (settled : AreSettled old mid) (end_is : IsTrue mid.is_clean
+    → end ≡ length old.volume) (only : Only old.volume mid.volume_leaves) where
   -- books without a place
-  pub fit_none : (mid.IsHonest → IsLast old.tables None) → (old.IsHonest → mid.IsClean → mid.IsHonest) → ((T : Tables) → mid.books_leave T → mid.IsHonest)
+  pub fit_none : (mid.IsHonest → IsLast old.tables None) → (old.IsHonest → mid.IsClean → mid.IsHonest)
+      → ((T : Tables) → mid.books_leave T → mid.IsHonest)
       → (mid.IsHonest → (T : Tables) → mid.books_leave T → T ≡ mid.tables) → AreFit end old mid
   fit_none none lasts works law = record {
     settled = settled;
@@ -89,7 +94,8 @@ module _ (end : ℕ) (old mid : Side) (settled : AreSettled old mid) (end_is : I
     fits = fits;
     own = λ both. (None, none both.0, tt);
     lasts = lasts;
-    places_alone = λ T it. let h = works T it in let is : T ≡ old.tables = law h T it ∙ settled.unchanged h in (is, subst (Fits end) (sym is) (fits h));
+    places_alone = λ T it. let h = works T it in let is : T ≡ old.tables = law h T it ∙ settled.unchanged h in
+        (is, subst (Fits end) (sym is) (fits h));
     volume_alone = only;
   }
     where
@@ -105,7 +111,8 @@ module _ (end : ℕ) (old mid : Side) (settled : AreSettled old mid) (end_is : I
     fits = fits;
     own = own;
     lasts = λ h clean. look.lasts (lasts h (look.settled.clean clean)) clean;
-    places_alone = λ T it. let h = look.works T it in let is : T ≡ old.tables = law h T it ∙ both.unchanged h in (is, subst (Fits end) (sym is) (fits h));
+    places_alone = λ T it. let h = look.works T it in let is : T ≡ old.tables = law h T it ∙ both.unchanged h in
+        (is, subst (Fits end) (sym is) (fits h));
     volume_alone = λ c it. only c (look.settled.volume_crash c it);
   }
     where
@@ -130,12 +137,17 @@ module _ (end : ℕ) (old mid : Side) (settled : AreSettled old mid) (end_is : I
     settled = settled_then old mid new settled look.settled;
     short = λ is both.
         let before = look.settled.honest both.0 in
-        let it = look.short is both.0 in
-        (last, it.0, (λ i. get (sym (settled.unchanged before) i).bodies last) ∙ it.1, subst (λ n. n < place_end it.0) (end_is (look.settled.volume_clean both.1)) it.2);
+        let it = look.short is both.0 in (
+          last,
+          it.0,
+          (λ i. get (sym (settled.unchanged before) i).bodies last) ∙ it.1,
+          subst (λ n. n < place_end it.0) (end_is (look.settled.volume_clean both.1)) it.2,
+        );
     other = λ is both. subst₂ HasOtherBytes settled.volume (settled.unchanged (look.settled.honest both.0)) (look.other is both);
   }
 
-pub refused_for : (why : TakeFault) (old new : Side) → AreSettled old new → why ≢ fault.TooShort → why ≢ fault.OtherVolume → AreUntaken why old new
+pub refused_for : (why : TakeFault) (old new : Side) → AreSettled old new → why ≢ fault.TooShort → why ≢ fault.OtherVolume
+    → AreUntaken why old new
 refused_for why old new settled short other = record {
   settled = settled;
   short = λ is. absurd (short is);
@@ -168,7 +180,8 @@ module _ (volume : List ℕ) (places : Tables) (sound : IsSound (over volume pla
   body_at : (file place : Bytes) → get places.bodies file ≡ Some place → get (over volume places).bodies file ≡ Some (bytes_at volume place)
   body_at file place at = get-change_values (bytes_at volume) places.bodies file ∙ ap (option_map (bytes_at volume)) at
 
-  known_at : (file place : Bytes) (found : Option FileRecord) → get places.bodies file ≡ Some place → get places.files file ≡ found → is_undeleted found ≡ true
+  known_at : (file place : Bytes) (found : Option FileRecord) → get places.bodies file ≡ Some place → get places.files file ≡ found
+      → is_undeleted found ≡ true
       → (known : FileRecord) × (get places.files file ≡ Some known) × (sha256 (bytes_at volume place) ≡ known.digest)
   known_at file place None at e is = absurd (false≢true is)
   known_at file place (Some known) at e is = (known, e, (sound.bytes file (bytes_at volume place) known (body_at file place at) e).digest)
@@ -182,5 +195,6 @@ module _ (volume : List ℕ) (places : Tables) (sound : IsSound (over volume pla
 none_behind : (volume : List ℕ) (places : Tables) → Fits (length volume) places → EndsBehind (length volume) places → ⊥
 none_behind volume places fits it = let within = (fits it.0 it.1 it.2).within in let less = it.3 in omega (arith, within, less)
 
-pub own_volume : (volume : List ℕ) (places : Tables) → Fits (length volume) places → IsSound (over volume places) → (¬ EndsBehind (length volume) places) × (¬ HasOtherBytes volume places)
+pub own_volume : (volume : List ℕ) (places : Tables) → Fits (length volume) places → IsSound (over volume places)
+    → (¬ EndsBehind (length volume) places) × (¬ HasOtherBytes volume places)
 own_volume volume places fits sound = (none_behind volume places fits, no_others volume places sound)

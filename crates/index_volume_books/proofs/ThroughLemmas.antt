@@ -1,5 +1,6 @@
 -- A write of places, as a write of bytes.
-use Rattle.std.proofs.Common.{◌≡◌, ◌⊎◌, inl, inr, ℕ, ◌≤◌, true, false, IsTrue, refl, sym, ap, ◌∙◌, subst, List, [], Option, Some, None, option_map, Result, Ok, Err, is_ok, take, ◌<◌, ◌^◌, arith}
+use Rattle.std.proofs.Common.{◌≡◌, ◌⊎◌, inl, inr, ℕ, ◌≤◌, true, false, IsTrue, refl, sym, ap, ◌∙◌, subst, List, [], Option, Some, None}
+use Rattle.std.proofs.Common.{option_map, Result, Ok, Err, is_ok, take, ◌<◌, ◌^◌, arith}
 use Rattle.std.specs.Result.{OnOk, OnErr, IfOk}
 use Rattle.std.specs.FinMap.{get}
 use Rattle.std.proofs.lemmas.Nat.{from_be_bytes-to_be_bytes_8}
@@ -44,14 +45,17 @@ stored_other place (change.Upload name project file known body ends) other = abs
 stored_other place c other = refl
 
 pub fits_other : (end : ℕ) (c : Change) (T : Tables) → has_body c ≡ false → Fits end T → Fits end (means c T)
-fits_other end c T other fits = subst (λ d. Fits end (means d T)) (stored_other [] c other) (fits_means end [] c T fits (λ is. absurd (false≢true (sym other ∙ is))))
+fits_other end c T other fits = subst (λ d. Fits end (means d T)) (stored_other [] c other)
+    (fits_means end [] c T fits (λ is. absurd (false≢true (sym other ∙ is))))
 
-pub fits_written : {A E : Type 0} (r : Result A E) (end : ℕ) (old new changed : Tables) → Fits end old → Fits end changed → OnOk r (new ≡ changed) → OnErr r (new ≡ old) → Fits end new
+pub fits_written : {A E : Type 0} (r : Result A E) (end : ℕ) (old new changed : Tables) → Fits end old → Fits end changed
+    → OnOk r (new ≡ changed) → OnErr r (new ≡ old) → Fits end new
 fits_written (Ok x) end old new changed before after ok err = subst (Fits end) (sym ok) after
 fits_written (Err e) end old new changed before after ok err = subst (Fits end) (sym err) before
 
 -- places that a crash leaves after a write fit
-pub fits_left : (end : ℕ) (old changed : Tables) (Honest : Type 0) (before : Tables → Type 0) (T : Tables) → ((P : Tables) → before P → Fits end P) → (Honest → Fits end changed)
+pub fits_left : (end : ℕ) (old changed : Tables) (Honest : Type 0) (before : Tables → Type 0) (T : Tables)
+    → ((P : Tables) → before P → Fits end P) → (Honest → Fits end changed)
     → before T ⊎ (Honest × (T ≡ changed)) → Fits end T
 fits_left end old changed Honest before T each fits (inl was) = each T was
 fits_left end old changed Honest before T each fits (inr it) = subst (Fits end) (sym it.1) (fits it.0)
@@ -85,24 +89,35 @@ module _ (r : Result (Unit {0}) Fault) (c : Change) (place body : Bytes) (end : 
       → WritesThrough old new c r
   writes_through written unchanged lasts crash alone clean = record {
     written = λ both. on_ok_map r (λ e. ap (over new.volume) e ∙ changed (clean_before both.1) (honest both.0)) (written both.0);
-    unchanged = λ both. on_err_map r (λ e. ap (over new.volume) e ∙ over_same end new.volume old.volume old.tables (fits (honest both.0)) (same (clean_before both.1))) (unchanged both.0);
+    unchanged = λ both. on_err_map r (λ e. ap (over new.volume) e
+        ∙ over_same end new.volume old.volume old.tables (fits (honest both.0)) (same (clean_before both.1))) (unchanged both.0);
     lasts = lasts;
     crash = λ T it. by T it (crash it.1 it.3);
-    alone = λ both. on_ok_map r (λ only T it. it.5 ∙ ap (over it.2) (only it.1 it.3) ∙ left_changed both.1 both.0 it.2 it.4 ∙ changed both.1 both.0) (alone both.0);
+    alone = λ both. on_ok_map r (λ only T it. it.5 ∙ ap (over it.2) (only it.1 it.3) ∙ left_changed both.1 both.0 it.2 it.4
+        ∙ changed both.1 both.0) (alone both.0);
     honest = honest;
     clean = clean;
     volume = clean_before;
   }
     where
-      by : (T : Tables) (it : left_of new T) → old.books_leave it.1 ⊎ (old.IsHonest × (it.1 ≡ means (with_stored place c) old.tables)) → left_of old T ⊎ (BothHonest old × (T ≡ means c (both_tables old)))
+      by : (T : Tables) (it : left_of new T) → old.books_leave it.1 ⊎ (old.IsHonest × (it.1 ≡ means (with_stored place c) old.tables))
+          → left_of old T ⊎ (BothHonest old × (T ≡ means c (both_tables old)))
       by T it (inl was) = let clean = clean_before it.0 in
-          inl (clean, it.1, old.volume, was, stays, it.5 ∙ over_same end it.2 old.volume it.1 (fits_after_crash it.1 was) (left clean it.2 it.4))
+          inl (
+            clean,
+            it.1,
+            old.volume,
+            was,
+            stays,
+            it.5 ∙ over_same end it.2 old.volume it.1 (fits_after_crash it.1 was) (left clean it.2 it.4),
+          )
       by T it (inr done) = let clean = clean_before it.0 in
           inr ((done.0, clean), it.5 ∙ ap (over it.2) done.1 ∙ left_changed clean done.0 it.2 it.4 ∙ changed clean done.0)
 
 -- a write that failed at the volume
 pub writes_nothing : (r : Result (Unit {0}) Fault) (c : Change) (end : ℕ) (old new : Side)
-    → new.tables ≡ old.tables → ((T : Tables) → new.books_leave T → old.books_leave T) → (new.IsHonest → old.IsHonest) → (new.IsClean → old.IsClean)
+    → new.tables ≡ old.tables → ((T : Tables) → new.books_leave T → old.books_leave T) → (new.IsHonest → old.IsHonest)
+    → (new.IsClean → old.IsClean)
     → (old.IsHonest → Fits end old.tables) → ((T : Tables) → old.books_leave T → Fits end T) → old.volume_leaves old.volume
     → (IsTrue new.is_clean → IsTrue old.is_clean)
     → (IsTrue old.is_clean → take end new.volume ≡ take end old.volume)
@@ -110,10 +125,18 @@ pub writes_nothing : (r : Result (Unit {0}) Fault) (c : Change) (end : ℕ) (old
     → OnOk r ⊥ → WritesThrough old new c r
 writes_nothing r c end old new is below honest clean fits after stays volume same left failed = record {
   written = λ both. on_ok_map r (λ no. absurd no) failed;
-  unchanged = λ both. on_err_of r (ap (over new.volume) is ∙ over_same end new.volume old.volume old.tables (fits (honest both.0)) (same (volume both.1)));
+  unchanged = λ both. on_err_of r (ap (over new.volume) is
+      ∙ over_same end new.volume old.volume old.tables (fits (honest both.0)) (same (volume both.1)));
   lasts = on_ok_map r (λ no. absurd no) failed;
   crash = λ T it. let clean = volume it.0 in
-      inl (clean, it.1, old.volume, below it.1 it.3, stays, it.5 ∙ over_same end it.2 old.volume it.1 (after it.1 (below it.1 it.3)) (left clean it.2 it.4));
+      inl (
+        clean,
+        it.1,
+        old.volume,
+        below it.1 it.3,
+        stays,
+        it.5 ∙ over_same end it.2 old.volume it.1 (after it.1 (below it.1 it.3)) (left clean it.2 it.4),
+      );
   alone = λ both. on_ok_map r (λ no. absurd no) failed;
   honest = honest;
   clean = clean;
@@ -149,10 +172,13 @@ pub found_none : (volume file : Bytes) (T : Tables) → None ≡ get T.bodies fi
 found_none volume file T is = sym (get-change_values (bytes_at volume) T.bodies file ∙ ap (option_map (bytes_at volume)) (sym is))
 
 -- a place, and the bytes there
-pub found_some : (volume file place bytes : Bytes) (T : Tables) → Some place ≡ get T.bodies file → bytes ≡ bytes_at volume place → Some bytes ≡ get (over volume T).bodies file
-found_some volume file place bytes T is read = ap Some read ∙ sym (get-change_values (bytes_at volume) T.bodies file ∙ ap (option_map (bytes_at volume)) (sym is))
+pub found_some : (volume file place bytes : Bytes) (T : Tables) → Some place ≡ get T.bodies file → bytes ≡ bytes_at volume place
+    → Some bytes ≡ get (over volume T).bodies file
+found_some volume file place bytes T is read =
+    ap Some read ∙ sym (get-change_values (bytes_at volume) T.bodies file ∙ ap (option_map (bytes_at volume)) (sym is))
 
 -- ---- the text of a place
 
-pub place_read : (at size : ℕ) → at < 2 ^ 64 → size < 2 ^ 64 → (place_at (place_text at size) ≡ at) × (place_size (place_text at size) ≡ size)
+pub place_read : (at size : ℕ) → at < 2 ^ 64 → size < 2 ^ 64
+    → (place_at (place_text at size) ≡ at) × (place_size (place_text at size) ≡ size)
 place_read at size low small = (from_be_bytes-to_be_bytes_8 at low, from_be_bytes-to_be_bytes_8 size small)

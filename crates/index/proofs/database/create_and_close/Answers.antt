@@ -25,17 +25,20 @@ pub returns-in-Ok-clause-unclosed : goal.returns-in-Ok-clause-unclosed
 returns-in-Ok-clause-unclosed g c =
     let conn = c.worked_on.result in
     let first_state = file_state c.args.conn in
-    let made = subst (λ held. IsMadeNew (first_tables c.args.user.now c.args.token) first_state (file_state held)) (sym c.worked_on.ensures.same) c.in-Ok.ensures.made in
+    let made = subst (λ held. IsMadeNew (first_tables c.args.user.now c.args.token) first_state (file_state held))
+    (sym c.worked_on.ensures.same) c.in-Ok.ensures.made in
     IfErr-weaker c.close.result _ _ (λ it closed clean start first.
     let then = clean_before conn it.store closed clean in
     let opening = first (made.was_clean then) in
-    created_in_log_by _ start c.args.conn conn it.store opening.0 opening.1 made then closed (c.worked_on.ensures.numbered then, c.worked_on.ensures.databases then))
+    created_in_log_by _ start c.args.conn conn it.store opening.0 opening.1 made
+    then closed (c.worked_on.ensures.numbered then, c.worked_on.ensures.databases then))
     c.close.ensures.kept
 
 pub returns-in-Ok-clause-was_clean : goal.returns-in-Ok-clause-was_clean
 returns-in-Ok-clause-was_clean g c =
     let made = c.in-Ok.ensures.made in
-    let copied = subst (λ held. IfOk c.close.result (λ it. AreClean g.D.Disk it.log it.db → IsCopied held it)) c.worked_on.ensures.same c.close.ensures.copied in
+    let copied = subst (λ held. IfOk c.close.result (λ it. AreClean g.D.Disk it.log it.db → IsCopied held it))
+    c.worked_on.ensures.same c.close.ensures.copied in
     let kept = subst (λ held. IfErr c.close.result (λ it. IsClosed held it.store)) c.worked_on.ensures.same c.close.ensures.kept in
     was_clean_by c.args.conn c.in-Ok.conn c.close.result made copied kept
 
@@ -53,5 +56,10 @@ returns-in-Err-clause-refused g c = λ start first.
 pub returns-in-Err-clause-why : goal.returns-in-Err-clause-why
 returns-in-Err-clause-why g c = λ page_sums start first. (
   refl,
-  (c.args.conn, first, subst (λ held. IsWhyUnmade c.args.user.now c.args.token over_files c.args.conn held c.in-Err.left.why) (sym c.worked_on-conn.ensures.same) c.in-Err.ensures.why),
+  (
+    c.args.conn,
+    first,
+    subst (λ held. IsWhyUnmade c.args.user.now c.args.token over_files c.args.conn held c.in-Err.left.why)
+        (sym c.worked_on-conn.ensures.same) c.in-Err.ensures.why,
+  ),
 )

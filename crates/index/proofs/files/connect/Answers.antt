@@ -10,13 +10,16 @@ returns-in-Ok g c = elim c.match-len.branch [
       let db = c.len.ensures in
       let log = c.len-2.ensures in
       let files = measured c.len-2.new.self c.len.new.self in
-      let now : AreAsFound g.D.Disk start files = still start c.args.files c.len-2.new.self c.len.new.self found log.seen db.seen log.crash db.crash
+      let now : AreAsFound g.D.Disk start files =
+      still start c.args.files c.len-2.new.self c.len.new.self found log.seen db.seen log.crash db.crash
       w.in-Ok-Ok.ensures'.faults w.in-Ok-Ok.ensures.faults log.tally db.tally in
       let conn = c.in-Ok.conn in
       let opened = c.in-Ok.ensures in
-      let allowed = allowed_by start files now c.args.page_sums w.in-Ok-Ok.db w.in-Ok-Ok.log w.cause_of_lengths-cause.result c.match-len.cause
+      let allowed = allowed_by start files now c.args.page_sums w.in-Ok-Ok.db w.in-Ok-Ok.log w.cause_of_lengths-cause.result
+      c.match-len.cause
       c.in_default-cause.is w.cause-is w.cause_of_lengths-cause.ensures
-      (λ clean. w.in-Ok-Ok.ensures.len clean ∙ ap length (sym db.seen)) (λ clean. w.in-Ok-Ok.ensures'.len clean ∙ ap length (sym log.seen)) in
+      (λ clean. w.in-Ok-Ok.ensures.len clean ∙ ap length (sym db.seen)) (λ clean. w.in-Ok-Ok.ensures'.len clean ∙ ap length (sym log.seen))
+      in
       record {
         outside = opened.fresh.autocommit;
         opened = opened_on start files now conn opened.opened opened.found;
@@ -35,7 +38,8 @@ returns-in-Err g c = elim c.match-len.branch [
       let db = c.len.ensures in
       let log = c.len-2.ensures in
       let files = measured c.len-2.new.self c.len.new.self in
-      let now : AreAsFound g.D.Disk start files = still start c.args.files c.len-2.new.self c.len.new.self found log.seen db.seen log.crash db.crash
+      let now : AreAsFound g.D.Disk start files =
+      still start c.args.files c.len-2.new.self c.len.new.self found log.seen db.seen log.crash db.crash
       w.in-Ok-Ok.ensures'.faults w.in-Ok-Ok.ensures.faults log.tally db.tally in
       let left = c.in-Err.left in
       let failed = c.in-Err.ensures in

@@ -7,7 +7,8 @@ pub returns : goal.returns
 returns c =
     let none : IsApp c.subcommand_required-index.result program_app = record {
       app = rw (c.subcommand_required-index.ensures, c.version.ensures)
-          (ap (λ (a : App). record { top = record a.top { has_version = true; subcommand_required = true }; subs = a.subs }) c.new.ensures.app);
+          (ap (λ (a : App). record { top = record a.top { has_version = true; subcommand_required = true }; subs = a.subs })
+          c.new.ensures.app);
       globals = rw (c.subcommand_required-index.ensures, c.version.ensures) c.new.ensures.local;
     } in
     let one = c.in_ok-index.ensures _ _ none c.init.ensures in

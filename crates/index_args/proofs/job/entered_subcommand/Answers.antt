@@ -17,4 +17,5 @@ module _ {S P A B : Type 0} where
 pub returns : goal.returns
 returns c =
     joined (out-ArgMatches c.args.matches.now).subcommand c.subcommand.result (λ b. (out-SubCommand (box_value b)).name.now)
-    (λ b. rows_of (found_of (out-SubCommand (box_value b)).matches)) (λ p. p.0.now) (λ p. rows_of (found_of p.1.now)) c.subcommand.ensures.name c.subcommand.ensures.rows
+    (λ b. rows_of (found_of (out-SubCommand (box_value b)).matches)) (λ p. p.0.now) (λ p. rows_of (found_of p.1.now))
+    c.subcommand.ensures.name c.subcommand.ensures.rows

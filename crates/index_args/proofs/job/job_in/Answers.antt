@@ -1,6 +1,8 @@
-use Rattle.std.proofs.Common.{rules, ◌≡◌, refl, inl, inr, [], List, Option, false, true, Result, Ok, Err, IfErr, IfSome, IsErrAnd, IsSome, map, string_bytes, subst, sym}
+use Rattle.std.proofs.Common.{rules, ◌≡◌, refl, inl, inr, [], List, Option, false, true, Result, Ok, Err, IfErr, IfSome, IsErrAnd, IsSome}
+use Rattle.std.proofs.Common.{map, string_bytes, subst, sym}
 use Rattle.clap.proofs.OnLiterals.{clap_on_literals}
-use Rattle.clap.specs.Words.{App, HasKind, HasMatchesOf, IsAmong, Text, app_of, fault_of, is_simple, is_simple_and_free, kind_of, subcommand_of, subcommand_rows_of, takes}
+use Rattle.clap.specs.Words.{App, HasKind, HasMatchesOf, IsAmong, Text, app_of, fault_of, is_simple, is_simple_and_free, kind_of}
+use Rattle.clap.specs.Words.{subcommand_of, subcommand_rows_of, takes}
 use Rattle.clap.specs.declared.parser.matches.ArgMatches.{ArgMatches}
 use Rattle.clap.specs.declared.error.Error.{Error}
 use Rattle.clap.specs.declared.error.ErrorKind.TheVariants.{MissingSubcommand, OutOfMemory as NoMemory}
@@ -14,12 +16,14 @@ use Rattle.index_args.proofs.job.job_in.Goals as goal
 
 -- ---- the end that an error becomes
 
-out_of_memory : (r : Result Job ArgsEnd) (error : Error) → kind_of error ≡ NoMemory → IsErrAnd r (IsEndOf error) → IfErr r (λ end. end ≡ OutOfMemory)
+out_of_memory : (r : Result Job ArgsEnd) (error : Error) → kind_of error ≡ NoMemory → IsErrAnd r (IsEndOf error)
+    → IfErr r (λ end. end ≡ OutOfMemory)
 out_of_memory (Ok job) error kind ends = absurd ends
 out_of_memory (Err OutOfMemory) error kind ends = refl
 out_of_memory (Err (Clap told)) error kind ends = absurd (ends.1 kind)
 
-refusal : (args : List Text) (r : Result Job ArgsEnd) (error : Error) → HasKind (fault_of index_app args) error → IsErrAnd r (IsEndOf error) → IfErr r (IsArgsRefusal args)
+refusal : (args : List Text) (r : Result Job ArgsEnd) (error : Error) → HasKind (fault_of index_app args) error → IsErrAnd r (IsEndOf error)
+    → IfErr r (IsArgsRefusal args)
 refusal args (Ok job) error kinds ends = absurd ends
 refusal args (Err OutOfMemory) error kinds ends = tt
 refusal args (Err (Clap told)) error (inl memory) ends = absurd (ends.1 memory)
@@ -35,12 +39,14 @@ unfolding clap_on_literals
 simple = refl
 
 -- what holds of the command that was built
-no_fault : (a b : App) (args : List Text) → a ≡ b → is_simple_and_free b ≡ true → (is_simple_and_free a ≡ true → fault_of a args ≡ []) → fault_of b args ≡ []
+no_fault : (a b : App) (args : List Text) → a ≡ b → is_simple_and_free b ≡ true → (is_simple_and_free a ≡ true → fault_of a args ≡ [])
+    → fault_of b args ≡ []
 no_fault a b args same is holds =
     subst (λ (x : App). fault_of x args ≡ []) same (holds (subst (λ (x : App). is_simple_and_free x ≡ true) (sym same) is))
 
 -- the kind of an error of the command that was built
-has_kind : (a b : App) (args : List Text) (error : Error) → a ≡ b → is_simple_and_free b ≡ true → (is_simple_and_free a ≡ true → HasKind (fault_of a args) error) → HasKind (fault_of b args) error
+has_kind : (a b : App) (args : List Text) (error : Error) → a ≡ b → is_simple_and_free b ≡ true
+    → (is_simple_and_free a ≡ true → HasKind (fault_of a args) error) → HasKind (fault_of b args) error
 has_kind a b args error same is holds =
     subst (λ (x : App). HasKind (fault_of x args) error) same (holds (subst (λ (x : App). is_simple_and_free x ≡ true) (sym same) is))
 
@@ -51,7 +57,8 @@ unfolding clap_on_literals
 plain = refl
 
 -- the rows are those of the arguments
-same_rows : (a : App) (args : List Text) (m : ArgMatches) → a ≡ index_app → HasMatchesOf a args m → subcommand_rows_of m ≡ subcommand_of index_app args
+same_rows : (a : App) (args : List Text) (m : ArgMatches) → a ≡ index_app → HasMatchesOf a args m
+    → subcommand_rows_of m ≡ subcommand_of index_app args
 same_rows a args m same has = (subst (λ (x : App). HasMatchesOf x args m) same has plain).1
 
 pub returns-in_err-matches : goal.returns-in_err-matches
@@ -66,7 +73,8 @@ returns-in_err-matches c =
       taken = search rules;
       why =
           refusal args _ c.in_err-matches.field-0.0
-          (has_kind (app_of c.args.command.now) index_app args c.in_err-matches.field-0.0 c.requires.app simple c.in_err-matches.ensures.kinds)
+          (has_kind (app_of c.args.command.now)
+          index_app args c.in_err-matches.field-0.0 c.requires.app simple c.in_err-matches.ensures.kinds)
           c.from_residual.ensures.1;
     }
 
@@ -87,7 +95,8 @@ returns c =
     let args = map string_bytes c.args.args.now in
     let rows = same_rows (app_of c.args.command.now) args c.in_ok-matches.matches c.requires.app c.in_ok-matches.ensures.ok.2 in
     let none : (job : Job) → ¬ IsJob (subcommand_of index_app args) job =
-    λ job asked. let never : false ≡ true = subst IsSome c.in-None.is (c.job_of.ensures.found job (subst (λ x. IsJob x job) (sym rows) asked)) in cc in
+    λ job asked. let never : false ≡ true = subst IsSome c.in-None.is
+    (c.job_of.ensures.found job (subst (λ x. IsJob x job) (sym rows) asked)) in cc in
     let kind : kind_of c.in_ok-error-in-None.field-0 ≡ MissingSubcommand = search rules in
     record {
       job = tt;

@@ -11,7 +11,8 @@ other : (P : Type 0) (name : Text) → codes "serve" ≡ name → bytes_eq name 
 other P name same differs = let never : true ≡ false = ap (λ text. bytes_eq text (codes "serve")) same ∙ differs in cc
 
 -- if the option is misread, there is no such job
-misread : (rows : List Row) (P : Type 0) → ((n : Option ℕ) → HasNumberOrNone (codes "keep-recent") rows n → false ≡ true) → (asked : Job) → IsJob (Some (codes "serve", rows)) asked → P
+misread : (rows : List Row) (P : Type 0) → ((n : Option ℕ) → HasNumberOrNone (codes "keep-recent") rows n → false ≡ true) → (asked : Job)
+    → IsJob (Some (codes "serve", rows)) asked → P
 misread rows P none (job.Init db user token page_sums) is = other P _ is.0 refl
 misread rows P none (job.Apply db) is = other P _ is.0 refl
 misread rows P none (job.Serve db args) is = let never = none args.keep_recent is.10 in cc

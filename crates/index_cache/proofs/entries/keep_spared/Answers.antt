@@ -9,6 +9,7 @@ returns-clause-spared c = filter_same _ _ _ (λ x b f' k. search rules) _ _ c.re
 
 pub returns-clause-fewer : goal.returns-clause-fewer
 returns-clause-fewer c = let same = returns-clause-spared c in (
-  subst (λ items. body_bytes items ≤ body_bytes c.args.bodies.now.items) (sym same) (spared_bytes c.args.change.now c.args.bodies.now.items),
+  subst (λ items. body_bytes items ≤ body_bytes c.args.bodies.now.items) (sym same)
+      (spared_bytes c.args.change.now c.args.bodies.now.items),
   subst (λ items. length items ≤ length c.args.bodies.now.items) (sym same) (spared_length c.args.change.now c.args.bodies.now.items),
 )

@@ -108,7 +108,8 @@ returns-in_err-reply-clause-store g c =
       told.0,
       rw c.in_err-reply.ensures.causes.kept told.1,
       LinesEnd-before _ _ _ _ _ _ c.from_residual-in_err-reply.result c.in_err-reply.field-0.0 is other
-          (faults_before _ _ _ _ _ _ _ (Progress-taken _ _ _ _ _ _ _ _ c.in-Some.size _ told.2 (rw c.in-Some.is at c.in_ok-size.ensures.line))),
+          (faults_before _ _ _ _ _ _ _ (Progress-taken _ _ _ _ _ _ _ _ c.in-Some.size _ told.2
+          (rw c.in-Some.is at c.in_ok-size.ensures.line))),
     )
 
 pub returns-in_err-reply-clause-stores : goal.returns-in_err-reply-clause-stores
@@ -119,7 +120,8 @@ returns-in_err-reply-clause-stores g c =
       told.0,
       rw c.in_err-reply.ensures.stores.kept told.1,
       LinesEnd-before _ _ _ _ _ _ c.from_residual-in_err-reply.result c.in_err-reply.field-0.0 is other
-          (faults_before _ _ _ _ _ _ _ (Progress-taken _ _ _ _ _ _ _ _ c.in-Some.size _ told.2 (rw c.in-Some.is at c.in_ok-size.ensures.line))),
+          (faults_before _ _ _ _ _ _ _ (Progress-taken _ _ _ _ _ _ _ _ c.in-Some.size _ told.2
+          (rw c.in-Some.is at c.in_ok-size.ensures.line))),
     )
 
 pub returns-in_err-reply-clause-keeps : goal.returns-in_err-reply-clause-keeps
@@ -141,7 +143,8 @@ returns-in_default-write_line-clause-answers g c =
     lines_end B _ c.reply_to.new.desk _ (leaves_none _ _) (B.tables c.reply_to.new.desk) _ _ _ _ _ (Err WriteFault)
     (Progress-during _ _ _ _ _ _ _ _ _ _ _ c.in-Some.size _ _ _ c.loop-count.invariant.answered
     (rw c.in-Some.is at c.in_ok-size.ensures.line)
-    (lines_push B g.met.B.Books.settled _ _ _ (B.tables c.loop-count.desk) (B.tables c.reply_to.new.desk) _ _ _ c.loop-count.invariant.keeps c.reply_to.ensures.keeps reply lasts asks)
+    (lines_push B g.met.B.Books.settled _ _ _ (B.tables c.loop-count.desk) (B.tables c.reply_to.new.desk)
+    _ _ _ c.loop-count.invariant.keeps c.reply_to.ensures.keeps reply lasts asks)
     front.0 front.1)
 
 pub returns-in_default-write_line-clause-store : goal.returns-in_default-write_line-clause-store
@@ -198,7 +201,8 @@ loop-count-preserved g c =
           let asks = rw c.as_slice.ensures.value at c.in_ok-reply.ensures.asks in
           Progress-push _ _ _ _ _ _ _ _ _ _ _ c.in-Some.size _ _ invariant.answered
           (rw c.in-Some.is at c.in_ok-size.ensures.line)
-          (lines_push B g.met.B.Books.settled _ _ _ (B.tables c.loop-count.desk) (B.tables c.reply_to.new.desk) _ _ _ invariant.keeps c.reply_to.ensures.keeps reply lasts asks)
+          (lines_push B g.met.B.Books.settled _ _ _ (B.tables c.loop-count.desk) (B.tables c.reply_to.new.desk)
+          _ _ _ invariant.keeps c.reply_to.ensures.keeps reply lasts asks)
           c.in-Ok.ensures.whole;
       faults = let causes = c.in_ok-reply.ensures.causes.told in (
         invariant.faults.0 + causes.0,

@@ -5,10 +5,12 @@ use Rattle.index_cli.proofs.listening.next_waiting.Goals as goal
 use Rattle.index_cli.proofs.listening.next_waiting.Goals.{then-is_ok+in_ok-set_nonblocking, else-is_ok}
 
 -- if none waits and none waited, the one that comes is the first
-comes : {A E : Type 0} → (old new : List A) → length old ≡ 0 → length new ≡ 0 → (result : Result A E) → IfOk result (λ first. TakesFirst old new first)
+comes : {A E : Type 0} → (old new : List A) → length old ≡ 0 → length new ≡ 0 → (result : Result A E)
+    → IfOk result (λ first. TakesFirst old new first)
 comes old new none left (Ok first) = (
   first ∷ [],
-  subst (λ o. o ++ first ∷ [] ≡ first ∷ new) (sym (nil_from_length old none)) (subst (λ n. first ∷ [] ≡ first ∷ n) (sym (nil_from_length new left)) refl),
+  subst (λ o. o ++ first ∷ [] ≡ first ∷ new) (sym (nil_from_length old none))
+      (subst (λ n. first ∷ [] ≡ first ∷ n) (sym (nil_from_length new left)) refl),
 )
 comes old new none left (Err error) = tt
 

@@ -16,7 +16,8 @@ returns-in-Some-Call g c = record {
   asks = search rules;
   leaves = search rules;
   causes = record {
-    told = answer_causes c.apply.result _ _ _ c.answer_text.ensures c.apply.ensures.takes.settles.failures c.apply.ensures.takes.settles.store;
+    told = answer_causes c.apply.result _ _ _ c.answer_text.ensures c.apply.ensures.takes.settles.failures
+        c.apply.ensures.takes.settles.store;
     kept = search rules;
     memory = search rules;
   };

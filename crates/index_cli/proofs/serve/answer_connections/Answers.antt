@@ -29,9 +29,11 @@ loop-count-preserved g c =
     let more = are_push C.coming C.replies B _ _ c.args.connections.now _ _ _ next in
     let kept = next.answers.keeps in
     let counted = never_fell _ _ _ invariant.counted (asks_count B _ _ next.exchange next.answers.asks) in
-    let idle = λ (same : B.failures c.answer_next.new.desk ≡ B.failures c.loop-count.desk). c.is_shut-was_shut.ensures.idle (same ∙ sym c.failure_count-failures.ensures) in
+    let idle = λ (same : B.failures c.answer_next.new.desk ≡ B.failures c.loop-count.desk). c.is_shut-was_shut.ensures.idle
+    (same ∙ sym c.failure_count-failures.ensures) in
     record {
-      served = served_push B (g.met.B.Books.settled) _ _ next.exchange more _ next.is_given _ _ _ _ _ invariant.keeps next.answers looked idle invariant.served;
+      served = served_push B (g.met.B.Books.settled)
+          _ _ next.exchange more _ next.is_given _ _ _ _ _ invariant.keeps next.answers looked idle invariant.served;
       keeps = keeps_on _ _ _ _ invariant.keeps (keeps_on _ _ _ _ kept (looks_keep _ _ _ looked));
       counted = never_fell _ _ _ counted looked.counted;
       shut = λ is. failed_since _ _ _ counted (c.is_shut-was_shut.ensures.store is);
@@ -40,7 +42,8 @@ loop-count-preserved g c =
 -- ---- at an end
 
 -- fewer were answered
-early : (requests count : ℕ) (result : Result (Unit {0}) ServeEnd) (end : ServeEnd) → result ≡ Err end → count < requests → IsCount requests result count
+early : (requests count : ℕ) (result : Result (Unit {0}) ServeEnd) (end : ServeEnd) → result ≡ Err end → count < requests
+    → IsCount requests result count
 early requests count result end is less = subst (λ r. IsCount requests r count) (sym is) less
 
 pub returns-then-was_shut-clause-answers : goal.returns-then-was_shut-clause-answers

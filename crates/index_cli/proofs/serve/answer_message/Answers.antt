@@ -8,13 +8,15 @@ pub returns : goal.returns
 returns g c =
     let B = g.B.Books in
     let one = c.answer_one.ensures in
-    let caused = has_cause g.S.Source g.K.Sink _ _ _ _ c.args.at _ (g.K.Sink.contents c.args.sink.now) (g.K.Sink.contents c.answer_one.new.sink) c.answer_one.result one.fails one.cut in
+    let caused = has_cause g.S.Source g.K.Sink _ _ _ _ c.args.at _ (g.K.Sink.contents c.args.sink.now)
+    (g.K.Sink.contents c.answer_one.new.sink) c.answer_one.result one.fails one.cut in
     record {
       tables = λ honest bearer. record {
         failures = B.failures c.args.desk.now;
         later_failures = B.failures c.answer_one.new.desk;
         ended = c.answer_one.result;
-        ends = stands_ends _ _ _ _ _ _ _ (λ later is. is honest) (one.tables (one.keeps.honest honest) (g.met.B.Books.honest_is_clean _ honest) bearer);
+        ends = stands_ends _ _ _ _ _ _ _ (λ later is. is honest)
+            (one.tables (one.keeps.honest honest) (g.met.B.Books.honest_is_clean _ honest) bearer);
         cause = caused;
       };
       history = λ honest h legal stands.

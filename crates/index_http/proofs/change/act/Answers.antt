@@ -14,7 +14,8 @@ use Rattle.index_http.proofs.Failures.{answer_lasts}
 use Rattle.index_http.proofs.change.act.Goals as goal
 
 -- a store that was honest is so after an answer that is no fault
-answered : (verdict : Verdict) (a : Answer) (Before After : Type 0) → Lasts a Before After → Before → (After → Answers verdict a) → Answers verdict a
+answered : (verdict : Verdict) (a : Answer) (Before After : Type 0) → Lasts a Before After → Before → (After → Answers verdict a)
+    → Answers verdict a
 answered verdict Accepted Before After after before answers = answers after
 answered verdict Already Before After lasts before answers = answers (lasts before)
 answered verdict (Refused refusal) Before After lasts before answers = answers (lasts before)
@@ -29,7 +30,11 @@ returns-in_default g c =
       tables = λ honest clean one.
           sent_ends _ _ _ _ _ _ (
             g.B.Books.tables c.args.desk.now,
-            (reply_of c.message_reply.result, ap (λ h. reply_text h (reply_of c.message_reply.result)) same_head, rw (c.requires, none) (c.message_reply.ensures, refl)),
+            (
+              reply_of c.message_reply.result,
+              ap (λ h. reply_text h (reply_of c.message_reply.result)) same_head,
+              rw (c.requires, none) (c.message_reply.ensures, refl),
+            ),
             λ _. refl,
           )
           c.send_reply.ensures.sent;
@@ -61,14 +66,19 @@ returns g c =
             λ then. ((took.taken then).tables one).1,
           )
           c.send_reply-2.ensures.sent;
-      asks = rw (c.requires, call) (sent_ends _ _ _ _ _ _ (c.apply-answer.result, text ∙ ap (reply_text (is_head c.args.request.now.method)) reply, took) c.send_reply-2.ensures.sent);
+      asks = rw (c.requires, call) (sent_ends _ _ _ _ _ _ (
+        c.apply-answer.result,
+        text ∙ ap (reply_text (is_head c.args.request.now.method)) reply,
+        took,
+      ) c.send_reply-2.ensures.sent);
       memory = λ none. absurd (sent_memory _ _ _ _ c.send_reply-2.ensures.sent none);
       whole = λ _. refl;
       unasked = λ faulty. cc faulty;
       stores = λ none. absurd (sent_memory _ _ _ _ c.send_reply-2.ensures.sent none);
       lasts = λ honest clean.
           answer_lasts _ _ _ c.apply-answer.result _ _ _ _ _ _ _ (took.settles.lasts clean) honest took.settles.kept
-          (subst (λ r. SendsBytes g.K.Sink c.args.sink.now c.send_reply-2.new.sink (reply_text c.is_head-2.result r) c.send_reply-2.result) c.answer_reply.ensures c.send_reply-2.ensures.sent);
+          (subst (λ r. SendsBytes g.K.Sink c.args.sink.now c.send_reply-2.new.sink (reply_text c.is_head-2.result r) c.send_reply-2.result)
+          c.answer_reply.ensures c.send_reply-2.ensures.sent);
       cut = search rules;
       sends = rw c.requires c.send_reply-2.ensures.sends;
       keeps = search rules;

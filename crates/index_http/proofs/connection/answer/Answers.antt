@@ -12,7 +12,11 @@ pub returns-in-Faulty : goal.returns-in-Faulty
 returns-in-Faulty g c = record {
   tables = λ honest clean one.
       rw c.in-Faulty.is
-      (sent_ends _ _ _ _ _ _ (g.B.Books.tables c.args.desk.now, (ap (reply_text c.in-Faulty.is_head) c.message_reply.ensures, refl), λ _. refl) c.send_reply.ensures.sent);
+      (sent_ends _ _ _ _ _ _ (
+        g.B.Books.tables c.args.desk.now,
+        (ap (reply_text c.in-Faulty.is_head) c.message_reply.ensures, refl),
+        λ _. refl,
+      ) c.send_reply.ensures.sent);
   asks = rw c.in-Faulty.is (leaves_none g.B.Books c.args.desk.now);
   memory = search rules;
   whole = λ none. absurd (sent_memory _ _ _ _ c.send_reply.ensures.sent none);
@@ -26,11 +30,13 @@ returns-in-Faulty g c = record {
 
 pub returns-then-is_reading : goal.returns-then-is_reading
 returns-then-is_reading g c =
-    let reads : is_reading c.in-Whole.request.method ≡ true = sym (c.is_reading.ensures ∙ ap is_reading c.method.ensures) ∙ c.if-is_reading.true in
+    let reads : is_reading c.in-Whole.request.method ≡ true =
+    sym (c.is_reading.ensures ∙ ap is_reading c.method.ensures) ∙ c.if-is_reading.true in
     record {
       tables = λ honest clean one.
           rw c.in-Whole.is
-          (look_ends _ _ _ (Stands g.B.Books.IsHonest g.B.Books.tables c.show.new.desk) _ _ _ _ _ reads (λ then. c.show.ensures.shown.leaves.unchanged then) (c.show.ensures.shown.shown honest clean));
+          (look_ends _ _ _ (Stands g.B.Books.IsHonest g.B.Books.tables c.show.new.desk) _ _ _ _ _ reads
+          (λ then. c.show.ensures.shown.leaves.unchanged then) (c.show.ensures.shown.shown honest clean));
       asks = rw (c.in-Whole.is, reads) c.show.ensures.shown.leaves;
       memory = search rules;
       whole = λ _. rw c.in-Whole.is refl;

@@ -10,14 +10,16 @@ use Rattle.index_http.proofs.connection.answer_one.Goals as goal
 pub returns-clause-tables : goal.returns-clause-tables
 returns-clause-tables g c = λ honest clean one.
     let read = c.in_ok-message.ensures.message in
-    ends_map _ _ _ _ _ _ _ (λ text replies. (replies.0, (read.0, c.in_ok-message.message, read.1, read.2, replies.1), replies.2)) (λ same. same)
+    ends_map _ _ _ _ _ _ _ (λ text replies. (replies.0, (read.0, c.in_ok-message.message, read.1, read.2, replies.1), replies.2))
+    (λ same. same)
     (c.answer.ensures.tables honest clean one)
 
 pub returns-clause-history : goal.returns-clause-history
 returns-clause-history g c = λ honest h legal stands.
     reply_ends_by_history _ _ h legal _ _ stands _ _ _ _
     (stands_ends _ _ _ _ _ _ _ (λ later is. is honest)
-    (returns-clause-tables g c (c.answer.ensures.keeps.honest honest) (g.met.B.Books.honest_is_clean _ honest) (sound_when_legal h legal _ stands).one_bearer))
+    (returns-clause-tables g c (c.answer.ensures.keeps.honest honest) (g.met.B.Books.honest_is_clean _ honest)
+    (sound_when_legal h legal _ stands).one_bearer))
 
 pub returns-clause-memory : goal.returns-clause-memory
 returns-clause-memory g c = λ is.

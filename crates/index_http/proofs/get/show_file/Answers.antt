@@ -8,7 +8,11 @@ use Rattle.index_http.proofs.get.show_file.Goals as goal
 pub returns-in-Some : goal.returns-in-Some
 returns-in-Some g c = record {
   shown = λ honest clean.
-      shown_ends _ _ _ _ _ _ _ _ (c.file_reply.ensures ∙ ap file_reply c.bytes.ensures) (Some c.in-Some.body.now, sym (c.in-Some.ensures honest), refl) c.send_reply.ensures.sent;
+      shown_ends _ _ _ _ _ _ _ _ (c.file_reply.ensures ∙ ap file_reply c.bytes.ensures) (
+        Some c.in-Some.body.now,
+        sym (c.in-Some.ensures honest),
+        refl,
+      ) c.send_reply.ensures.sent;
   leaves = leaves_none _ _;
   sends = search rules;
   stores = λ is. absurd (sent_memory _ _ _ _ c.send_reply.ensures.sent is);
@@ -18,8 +22,13 @@ returns-in-Some g c = record {
 pub returns-in-Ok-Some : goal.returns-in-Ok-Some
 returns-in-Ok-Some g c = record {
   shown = λ honest clean.
-      let body = rw c.in-Ok-Some.field-0-is at (c.in-Ok-Some.ensures.looks.found (c.in-Ok-Some.ensures.looks.look.lasts honest (c.cache_body.ensures.clean clean))) in
-      shown_ends _ _ _ _ _ _ _ _ (c.file_reply-in-Ok-Some.ensures ∙ ap file_reply c.bytes-in-Ok-Some.ensures) (Some c.in-Ok-Some.body, body, refl) c.send_reply-sent.ensures.sent;
+      let body = rw c.in-Ok-Some.field-0-is at
+      (c.in-Ok-Some.ensures.looks.found (c.in-Ok-Some.ensures.looks.look.lasts honest (c.cache_body.ensures.clean clean))) in
+      shown_ends _ _ _ _ _ _ _ _ (c.file_reply-in-Ok-Some.ensures ∙ ap file_reply c.bytes-in-Ok-Some.ensures) (
+        Some c.in-Ok-Some.body,
+        body,
+        refl,
+      ) c.send_reply-sent.ensures.sent;
   leaves = leaves_on _ _ _ _ (look_leaves _ _ _ _ c.in-Ok-Some.ensures.looks.look) (look_leaves _ _ _ _ c.cache_body.ensures);
   sends = search rules;
   stores = λ is. absurd (sent_memory _ _ _ _ c.send_reply-sent.ensures.sent is);

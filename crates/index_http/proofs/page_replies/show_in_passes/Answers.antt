@@ -15,25 +15,33 @@ returns-in-Ok-Some g c = record {
   shown = λ honest clean.
       let then = c.send_page.ensures.leaves.clean clean in
       let there = measured _ _ _ _
-      (subst (λ o. MeasuresPage (page_in (g.B.Books.tables c.args.desk.now) c.args.served c.args.page) (g.B.Books.failures c.args.desk.now) (g.B.Books.failures c.length_of.new.desk) (Ok o))
+      (subst (λ o. MeasuresPage (page_in (g.B.Books.tables c.args.desk.now) c.args.served c.args.page) (g.B.Books.failures c.args.desk.now)
+      (g.B.Books.failures c.length_of.new.desk) (Ok o))
       c.in-Ok-Some.field-0-is (c.in-Ok-Some.ensures.measured honest then)) in
       let right : is_err c.length_of.result ≡ false = search rules in
       let after = c.length_of.ensures.keeps.lasts right honest then in
       let same = c.length_of.ensures.keeps.unchanged after in
       shown_ends _ _ _ _ (page_reply c.args.served there.bytes) _ _ _ refl (shows_measured c.args.served _ _ there)
-      (c.send_page.ensures.sent after clean (record { bytes = there.bytes; is = rw same there.is; size = there.size; within = there.within }));
+      (c.send_page.ensures.sent after clean (record {
+        bytes = there.bytes;
+        is = rw same there.is;
+        size = there.size;
+        within = there.within;
+      }));
   leaves = leaves_on _ _ _ _ (keeps_leaves _ _ _ _ c.length_of.ensures.keeps) c.send_page.ensures.leaves;
   sends = search rules;
   stores = λ is. let told = rw is at c.send_page.ensures.told in cc told;
   lasts = λ honest clean.
       let then = c.send_page.ensures.leaves.clean clean in
       let there = measured _ _ _ _
-      (subst (λ o. MeasuresPage (page_in (g.B.Books.tables c.args.desk.now) c.args.served c.args.page) (g.B.Books.failures c.args.desk.now) (g.B.Books.failures c.length_of.new.desk) (Ok o))
+      (subst (λ o. MeasuresPage (page_in (g.B.Books.tables c.args.desk.now) c.args.served c.args.page) (g.B.Books.failures c.args.desk.now)
+      (g.B.Books.failures c.length_of.new.desk) (Ok o))
       c.in-Ok-Some.field-0-is (c.in-Ok-Some.ensures.measured honest then)) in
       let right : is_err c.length_of.result ≡ false = search rules in
       let after = c.length_of.ensures.keeps.lasts right honest then in
       let same = c.length_of.ensures.keeps.unchanged after in
-      elim (c.send_page.ensures.lasts after clean (record { bytes = there.bytes; is = rw same there.is; size = there.size; within = there.within })) [
+      elim (c.send_page.ensures.lasts after clean
+      (record { bytes = there.bytes; is = rw same there.is; size = there.size; within = there.within })) [
         | inl stays ↦ inl (stays.0, stays.1 ∙ c.length_of.ensures.keeps.kept right)
         | inr part ↦ inr (less_shows _ _ (page_reply c.args.served there.bytes) _ _ (shows_measured c.args.served _ _ there) part)
       ];

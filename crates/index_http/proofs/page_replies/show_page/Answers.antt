@@ -9,7 +9,8 @@ use Rattle.index_http.proofs.page_replies.show_page.Goals as goal
 pub returns-in-Some : goal.returns-in-Some
 returns-in-Some g c = record {
   shown = λ honest clean.
-      shown_ends _ _ _ _ _ _ _ _ c.page_reply.ensures (shows_gathered c.args.served _ _ (c.in-Some.ensures honest)) c.send_reply.ensures.sent;
+      shown_ends _ _ _ _ _ _ _ _ c.page_reply.ensures (shows_gathered c.args.served _ _ (c.in-Some.ensures honest))
+      c.send_reply.ensures.sent;
   leaves = leaves_none _ _;
   sends = search rules;
   stores = λ is. absurd (sent_memory _ _ _ _ c.send_reply.ensures.sent is);
@@ -20,7 +21,8 @@ pub returns-in-Ok-Some : goal.returns-in-Ok-Some
 returns-in-Ok-Some g c = record {
   shown = λ honest clean.
       let is = rw c.in-Ok-Some.field-0-is at (c.in-Ok-Some.ensures.text honest (c.cache_page.ensures.clean clean)) in
-      shown_ends _ _ _ _ _ _ _ _ (c.page_reply-in-Ok-Some.ensures ∙ ap (page_reply c.args.served) c.as_slice.ensures.value) (shows_gathered c.args.served _ _ is) c.send_reply-sent.ensures.sent;
+      shown_ends _ _ _ _ _ _ _ _ (c.page_reply-in-Ok-Some.ensures ∙ ap (page_reply c.args.served) c.as_slice.ensures.value)
+      (shows_gathered c.args.served _ _ is) c.send_reply-sent.ensures.sent;
   leaves = leaves_on _ _ _ _ (look_leaves _ _ _ _ c.in-Ok-Some.ensures.look) (look_leaves _ _ _ _ c.cache_page.ensures);
   sends = search rules;
   stores = λ is. absurd (sent_memory _ _ _ _ c.send_reply-sent.ensures.sent is);

@@ -19,7 +19,11 @@ returns-in-Err-clause-front g c =
     let within = length-joined-take c.args.pieces.now c.loop-piece.piece-index no_piece c.loop-piece-test.true in
     let few : c.in-Err.count ≤ length (get_or c.args.pieces.now c.loop-piece.piece-index no_piece).now = omega (arith, front.0) in (
       omega (arith, within, front.0, c.loop-piece.invariant.count),
-      rw (c.loop-piece.invariant.count, take-joined c.args.pieces.now c.loop-piece.piece-index c.in-Err.count no_piece c.loop-piece-test.true few)
+      rw (
+        c.loop-piece.invariant.count,
+        take-joined c.args.pieces.now c.loop-piece.piece-index c.in-Err.count no_piece
+            c.loop-piece-test.true few,
+      )
           (Appends-trans _ _ _ _ _ c.loop-piece.invariant.sent front.1),
     )
 

@@ -37,7 +37,8 @@ returns-in-Whole-clause-reads g c =
     }
 
 pub returns-clause-none : goal.returns-clause-none
-returns-clause-none g c _ = none_by_limit _ _ (omega (arith, c.loop-source.invariant.short, c.loop-source.held.ok.0)) c.loop-source.invariant.none
+returns-clause-none g c _ = none_by_limit _ _ (omega (arith, c.loop-source.invariant.short, c.loop-source.held.ok.0))
+    c.loop-source.invariant.none
 
 pub returns-in-Never-clause-method : goal.returns-in-Never-clause-method
 returns-in-Never-clause-method g c _ = method_when_never _ _ (rw (c.in-Never.is, c.as_slice.ensures.value) at c.try_head.ensures.tries)

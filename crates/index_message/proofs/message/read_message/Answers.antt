@@ -13,15 +13,21 @@ pub returns-in_default-clause-message : goal.returns-in_default-clause-message
 returns-in_default-clause-message g c = (
   c.read_head.new.held.items ++ unwrap_or (g.S.Source.remaining c.read_head.new.source) [],
   input_is _ _ _ c.in_ok-spans.ensures.consumed,
-  inl (c.in_ok-spans.ensures.none (ap Ok c.in_default.is), ap (Faulty BadHead) (c.starts_with.ensures.value ∙ ap begins_with_head c.as_slice.ensures.value ∙ sym (c.in_ok-spans.ensures.method (ap Ok c.in_default.is)))),
+  inl (
+    c.in_ok-spans.ensures.none (ap Ok c.in_default.is),
+    ap (Faulty BadHead) (c.starts_with.ensures.value ∙ ap begins_with_head c.as_slice.ensures.value
+        ∙ sym (c.in_ok-spans.ensures.method (ap Ok c.in_default.is))),
+  ),
 )
 
 pub returns-clause-message : goal.returns-clause-message
 returns-clause-message g c =
-    let found : IsHeadAt c.read_head.new.held.items c.read_head.new.fields c.in-Some.spans = rw c.in-Some.is at c.in_ok-spans.ensures.head in
+    let found : IsHeadAt c.read_head.new.held.items c.read_head.new.fields c.in-Some.spans =
+    rw c.in-Some.is at c.in_ok-spans.ensures.head in
     let short : length c.read_head.new.held.items ≤ 16384 = omega (arith, c.in_ok-spans.ensures.short, c.read_head.new.held.ok.0) in
     IfOk-weaker c.read_rest.result _ _
-    (λ message follows. message_read _ _ _ _ _ _ found message short c.in_ok-spans.ensures.consumed (follows found)) c.read_rest.ensures.message
+    (λ message follows. message_read _ _ _ _ _ _ found message short c.in_ok-spans.ensures.consumed (follows found))
+    c.read_rest.ensures.message
 
 pub returns-clause-reads : goal.returns-clause-reads
 returns-clause-reads g c =
@@ -37,14 +43,16 @@ returns-clause-reads g c =
 
 pub returns-clause-prompt : goal.returns-clause-prompt
 returns-clause-prompt g c is =
-    let found : IsHeadAt c.read_head.new.held.items c.read_head.new.fields c.in-Some.spans = rw c.in-Some.is at c.in_ok-spans.ensures.head in
+    let found : IsHeadAt c.read_head.new.held.items c.read_head.new.fields c.in-Some.spans =
+    rw c.in-Some.is at c.in_ok-spans.ensures.head in
     let short : length c.read_head.new.held.items ≤ 16384 = omega (arith, c.in_ok-spans.ensures.short, c.read_head.new.held.ok.0) in
     let rest = c.read_rest.ensures.prompt is found in
     unfinished _ _ _ _ _ _ _ found short c.in_ok-spans.ensures.consumed rest.2 rest.1
 
 pub returns-clause-memory : goal.returns-clause-memory
 returns-clause-memory g c is =
-    let found : IsHeadAt c.read_head.new.held.items c.read_head.new.fields c.in-Some.spans = rw c.in-Some.is at c.in_ok-spans.ensures.head in
+    let found : IsHeadAt c.read_head.new.held.items c.read_head.new.fields c.in-Some.spans =
+    rw c.in-Some.is at c.in_ok-spans.ensures.head in
     let short : length c.read_head.new.held.items ≤ 16384 = omega (arith, c.in_ok-spans.ensures.short, c.read_head.new.held.ok.0) in
     let left = unwrap_or (g.S.Source.remaining c.read_head.new.source) [] in
     inr (

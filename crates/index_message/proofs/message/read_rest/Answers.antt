@@ -18,7 +18,8 @@ returns-in-Some g c =
     let bound : c.in-Ok.asked.length ≤ 16777216 = rw c.in-Ok.is at c.in_ok-asked.ensures.bound in
     record {
       message = IfOk-weaker c.whole_message.result _ _
-          (λ message is found. (read.0, read.1, is ∙ follows_whole _ _ _ _ _ _ found _ (asked found) read.2.0 read.2.1)) c.whole_message.ensures.message;
+          (λ message is found. (read.0, read.1, is ∙ follows_whole _ _ _ _ _ _ found _ (asked found) read.2.0 read.2.1))
+          c.whole_message.ensures.message;
       prompt = search rules;
       memory = λ _ found. asked_has_route found.head _ (asked found);
       reads = record { failures = search rules; limit = (given.0, omega (arith, given.1, bound), given.2) };
@@ -29,7 +30,8 @@ returns-in-None g c =
     let asked : (found : IsHeadAt c.args.bytes.items c.args.fields.now c.args.spans) → asked_of found.head ≡ Ok c.in-Ok.asked = λ found.
     sym (asked_is _ _ _ found) ∙ sym (rw c.as_slice-came.ensures.value at c.in_ok-asked.ensures.asked) ∙ c.in-Ok.is in
     let read = rw (c.in-None.is, c.as_slice-came.ensures.value, take_rest) at c.in_ok-body.ensures.body in
-    let named : (found : IsHeadAt c.args.bytes.items c.args.fields.now c.args.spans) → c.faulty_message-in-None.result ≡ Faulty ShortBody (is_head_name found.head.method) = λ found.
+    let named : (found : IsHeadAt c.args.bytes.items c.args.fields.now c.args.spans)
+    → c.faulty_message-in-None.result ≡ Faulty ShortBody (is_head_name found.head.method) = λ found.
     rw (sym found.at.method) (rw c.as_slice-came.ensures.value at c.faulty_message-in-None.ensures) in
     let given = c.read_body.ensures.reads.limit in
     let bound : c.in-Ok.asked.length ≤ 16777216 = rw c.in-Ok.is at c.in_ok-asked.ensures.bound in
@@ -51,7 +53,8 @@ returns-in_err-body g c =
       prompt = λ is found.
           let failed : c.in_err-body.field-0.0 ≡ ReadFault = search rules in
           let read = rw (c.as_slice-came.ensures.value, take_rest) at (c.in_err-body.ensures.prompt (ap Err failed)) in
-          let part : length (drop c.args.spans.len c.args.bytes.items ++ read.0) < c.in-Ok.asked.length = rw length-append (omega (arith, read.1)) in
+          let part : length (drop c.args.spans.len c.args.bytes.items ++ read.0) < c.in-Ok.asked.length =
+          rw length-append (omega (arith, read.1)) in
           (read.0, (c.in-Ok.asked, asked found, part), read.2);
       memory = λ _ found. asked_has_route found.head _ (asked found);
       reads = record { failures = search rules; limit = (given.0, omega (arith, given.1, bound), given.2) };

@@ -6,5 +6,6 @@ use Rattle.index_names.proofs.project.normalize.Goals as goal
 pub returns : goal.returns
 returns c =
     sym (append-nil (string_bytes c.loop-byte.normal))
-    ∙ ap (λ y. string_bytes c.loop-byte.normal ++ rest c.loop-byte.is_apart y) (sym (drop_of_length-le c.args.bytes.now c.loop-byte-test.false))
+    ∙ ap (λ y. string_bytes c.loop-byte.normal ++ rest c.loop-byte.is_apart y)
+    (sym (drop_of_length-le c.args.bytes.now c.loop-byte-test.false))
     ∙ c.loop-byte.invariant ∙ rest-name c.args.bytes.now c.requires

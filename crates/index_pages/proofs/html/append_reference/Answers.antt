@@ -6,10 +6,12 @@ use Rattle.index_pages.proofs.PieceLemmas.{adds_both, adds_same}
 use Rattle.index_pages.proofs.html.append_reference.Goals as goal
 
 reference-pieces : (project file digits digest : Bytes) → digits ≡ text_of digest
-    → (codes "<a href=\"/files/" ++ (project ++ codes "/")) ++ ((file ++ codes "#sha256=") ++ (digits ++ codes "\"")) ≡ reference project file digest
+    → (codes "<a href=\"/files/" ++ (project ++ codes "/")) ++ ((file ++ codes "#sha256=") ++ (digits ++ codes "\""))
+    ≡ reference project file digest
 reference-pieces project file digits digest is =
     let last = digits ++ codes "\"" in
-    let path = append_assoc project (codes "/") ((file ++ codes "#sha256=") ++ last) ∙ ap (λ x. project ++ (codes "/" ++ x)) (append_assoc file (codes "#sha256=") last) in
+    let path = append_assoc project (codes "/") ((file ++ codes "#sha256=") ++ last)
+    ∙ ap (λ x. project ++ (codes "/" ++ x)) (append_assoc file (codes "#sha256=") last) in
     ap (λ x. codes "<a href=\"/files/" ++ x) path
     ∙ ap (λ x. codes "<a href=\"/files/" ++ (project ++ (codes "/" ++ (file ++ (codes "#sha256=" ++ (x ++ codes "\"")))))) is
 

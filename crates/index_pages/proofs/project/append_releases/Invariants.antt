@@ -7,4 +7,5 @@ use Rattle.index_pages.proofs.project.append_releases.Given as goal
 -- the text so far, and that of the releases that are left
 abbrev pub invariant-loop-release : goal.invariant-loop-release
 invariant-loop-release g l =
-    (text : Bytes) × ExtendsText g.O.Pieces.holds l.fn.out l.out text × (text ++ releases_text l.is_later l.release-iterator ≡ releases_text false l.releases.keys)
+    (text : Bytes) × ExtendsText g.O.Pieces.holds l.fn.out l.out text
+    × (text ++ releases_text l.is_later l.release-iterator ≡ releases_text false l.releases.keys)

@@ -6,5 +6,8 @@ use Rattle.index_plain.proofs.accounts.put_both.Goals as goal
 pub returns-in-Err-clause-bearer : goal.returns-in-Err-clause-bearer
 returns-in-Err-clause-bearer c = record {
   written = tt;
-  unchanged = c.remove.ensures ∙ take_back pair_total exact_pair _ _ (c.args.known.token, c.args.user.now) tt None (sym c.requires) c.in_ok-put.ensures.written;
+  unchanged = c.remove.ensures ∙ take_back pair_total exact_pair _ _ (
+    c.args.known.token,
+    c.args.user.now,
+  ) tt None (sym c.requires) c.in_ok-put.ensures.written;
 }

@@ -4,7 +4,8 @@ use Rattle.index_plain.specs.Trees.{map_of}
 use Rattle.index_plain.proofs.PairLemmas.{nothing_at, some_at}
 use Rattle.index_plain.proofs.pairs.first_at.Goals as goal
 
-match_weaker : {R : Type 0} (o : Option R) (N N' : Type 0) (S S' : R → Type 0) → (N → N') → ((r : R) → S r → S' r) → MatchOption o N S → MatchOption o N' S'
+match_weaker : {R : Type 0} (o : Option R) (N N' : Type 0) (S S' : R → Type 0) → (N → N') → ((r : R) → S r → S' r) → MatchOption o N S
+    → MatchOption o N' S'
 match_weaker None N N' S S' f g h = f h
 match_weaker (Some r) N N' S S' f g h = g r h
 
@@ -24,4 +25,5 @@ pub returns-in-None : goal.returns-in-None
 returns-in-None g c =
     let a = g.met.A in
     let b = g.met.B in
-    nothing_at a.Ord.total b.Ord.total a.Key.exact b.Key.exact (map_of g.A.Ord.cmp c.args.map.now) c.args.first.now (sym (sym (ap option_copied c.in-None.is) ∙ c.find.ensures))
+    nothing_at a.Ord.total b.Ord.total a.Key.exact b.Key.exact (map_of g.A.Ord.cmp c.args.map.now) c.args.first.now
+    (sym (sym (ap option_copied c.in-None.is) ∙ c.find.ensures))

@@ -25,9 +25,11 @@ returns-in-Some g c =
     let there = map_insert a.Ord.total a.Key.exact before after first inner ((c.get_mut.follows.holds inner).3 (ap is_some at)) in
     record {
       written = on_ok_weaker c.put.result (λ put.
-          pairs_put a.Ord.total b.Ord.total a.Key.exact b.Key.exact (map_of P before) (map_of P after) first inner there second value (put ∙ ap (λ x. insert (inner_of Q x) second value) found)) c.put.ensures.written;
+          pairs_put a.Ord.total b.Ord.total a.Key.exact b.Key.exact (map_of P before) (map_of P after) first inner there second value
+          (put ∙ ap (λ x. insert (inner_of Q x) second value) found)) c.put.ensures.written;
       unchanged = on_err_weaker c.put.result (λ same.
-          pairs_same a.Ord.total b.Ord.total a.Key.exact b.Key.exact (map_of P before) (map_of P after) first inner there (same ∙ ap (inner_of Q) found)) c.put.ensures.unchanged;
+          pairs_same a.Ord.total b.Ord.total a.Key.exact b.Key.exact (map_of P before) (map_of P after) first inner there
+          (same ∙ ap (inner_of Q) found)) c.put.ensures.unchanged;
     }
 
 pub returns-in-None : goal.returns-in-None
@@ -45,6 +47,7 @@ returns-in-None g c =
     let absent = without_absent a.Ord.total b.Ord.total a.Key.exact b.Key.exact (map_of P before) first none in
     record {
       written = on_ok_weaker c.put_alone.result (λ put.
-          put ∙ ap (λ m. insert (without_first P Q first (pairs_of P Q (map_of P m))) (first, second) value) lent ∙ ap (λ m. insert m (first, second) value) absent) c.put_alone.ensures.written;
+          put ∙ ap (λ m. insert (without_first P Q first (pairs_of P Q (map_of P m))) (first, second) value) lent
+          ∙ ap (λ m. insert m (first, second) value) absent) c.put_alone.ensures.written;
       unchanged = on_err_weaker c.put_alone.result (λ same. same ∙ ap (λ m. pairs_of P Q (map_of P m)) lent) c.put_alone.ensures.unchanged;
     }

@@ -15,9 +15,12 @@ returns-in-Some g c =
     let inner = c.remove.new.map in
     let after = c.get_mut.follows.lender inner in
     let at = sym c.get_mut.ensures.value ∙ ap option_copied_mut c.in-Some.is in
-    let there = map_insert a.Ord.total a.Key.exact before after c.args.first.now inner ((c.get_mut.follows.holds inner).3 (ap is_some at)) in
-    pairs_take a.Ord.total b.Ord.total a.Key.exact b.Key.exact (map_of g.A.Ord.cmp before) (map_of g.A.Ord.cmp after) c.args.first.now inner there c.args.second.now
-    (c.remove.ensures ∙ ap (λ x. remove (inner_of g.B.Ord.cmp x) c.args.second.now) (sym (get_map a.Ord.total before c.args.first.now ∙ at)))
+    let there = map_insert a.Ord.total a.Key.exact before after c.args.first.now inner ((c.get_mut.follows.holds inner).3 (ap is_some at))
+    in
+    pairs_take a.Ord.total b.Ord.total a.Key.exact b.Key.exact (map_of g.A.Ord.cmp before) (map_of g.A.Ord.cmp after)
+    c.args.first.now inner there c.args.second.now
+    (c.remove.ensures ∙ ap (λ x. remove (inner_of g.B.Ord.cmp x) c.args.second.now)
+    (sym (get_map a.Ord.total before c.args.first.now ∙ at)))
 
 pub returns-in_default : goal.returns-in_default
 returns-in_default g c =

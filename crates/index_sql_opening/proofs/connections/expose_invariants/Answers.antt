@@ -16,7 +16,8 @@ returns-clause-index g c is_open schema =
     record {
       schema = schema;
       sound = (live is_open).0;
-      numbered = numbered_from index_schema v (g.met.S.Alter.listed c.args.conn.store unbroken) (g.met.S.Store.ordered c.args.conn.store unbroken) sound;
+      numbered = numbered_from index_schema v (g.met.S.Alter.listed c.args.conn.store unbroken)
+          (g.met.S.Store.ordered c.args.conn.store unbroken) sound;
     }
 
 pub returns-clause-first_version : goal.returns-clause-first_version
@@ -28,5 +29,6 @@ returns-clause-first_version g c is_open schema =
     record {
       schema = schema;
       sound = (live is_open).0;
-      numbered = numbered_from first_version_schema v (g.met.S.Alter.listed c.args.conn.store unbroken) (g.met.S.Store.ordered c.args.conn.store unbroken) sound;
+      numbered = numbered_from first_version_schema v (g.met.S.Alter.listed c.args.conn.store unbroken)
+          (g.met.S.Store.ordered c.args.conn.store unbroken) sound;
     }

@@ -7,4 +7,7 @@ pub returns : goal.returns
 returns c =
     let empty = c.in_ok-conn.ensures.empty in
     let is_open = empty.0.is_open in
-    record { schema = c.in_ok-commit_tables.ensures.made (memory_is_clean c.commit_tables.new.conn) is_open (record { schema = empty.2; sound = (empty.1 is_open).0 }) ∙ all_made }
+    record {
+      schema = c.in_ok-commit_tables.ensures.made (memory_is_clean c.commit_tables.new.conn) is_open
+          (record { schema = empty.2; sound = (empty.1 is_open).0 }) ∙ all_made;
+    }

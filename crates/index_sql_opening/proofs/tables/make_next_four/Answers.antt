@@ -6,24 +6,34 @@ use Rattle.index_sql_opening.proofs.NewAskLemmas.{more_tables}
 use Rattle.index_sql_opening.proofs.tables.make_next_four.Goals as goal
 
 pub returns-in_err-make_table : goal.returns-in_err-make_table
-returns-in_err-make_table g c = exits g.S.Store (text_ask files_text ∷ []) (text_ask blobs_text ∷ text_ask yanks_text ∷ text_ask cases_text ∷ []) _ _ _ c.from_residual.ensures.1 (c.in_err-make_table.ensures.made 4 refl)
+returns-in_err-make_table g c = exits g.S.Store (text_ask files_text ∷ [])
+    (text_ask blobs_text ∷ text_ask yanks_text ∷ text_ask cases_text ∷ []) _ _ _ c.from_residual.ensures.1
+    (c.in_err-make_table.ensures.made 4 refl)
 
 pub returns-in_err-make_table-2 : goal.returns-in_err-make_table-2
 returns-in_err-make_table-2 g c =
     let one = c.in_ok-make_table.ensures.made 4 refl in
-    exits g.S.Store (text_ask files_text ∷ text_ask blobs_text ∷ []) (text_ask yanks_text ∷ text_ask cases_text ∷ []) _ _ _ c.from_residual-in_err-make_table-2.ensures.1
-    (more_tables g.S.Store (text_ask files_text ∷ []) (text_ask blobs_text ∷ []) one (Err c.in_err-make_table-2.field-0.0) (c.in_err-make_table-2.ensures.made 5 refl))
+    exits g.S.Store (text_ask files_text ∷ text_ask blobs_text ∷ []) (text_ask yanks_text ∷ text_ask cases_text ∷ [])
+    _ _ _ c.from_residual-in_err-make_table-2.ensures.1
+    (more_tables g.S.Store (text_ask files_text ∷ []) (text_ask blobs_text ∷ []) one (Err c.in_err-make_table-2.field-0.0)
+    (c.in_err-make_table-2.ensures.made 5 refl))
 
 pub returns-in_err-make_table-3 : goal.returns-in_err-make_table-3
 returns-in_err-make_table-3 g c =
     let one = c.in_ok-make_table.ensures.made 4 refl in
-    let two = more_tables g.S.Store (text_ask files_text ∷ []) (text_ask blobs_text ∷ []) one (Ok c.in_ok-make_table-2.field-0) (c.in_ok-make_table-2.ensures.made 5 refl) in
-    exits g.S.Store (text_ask files_text ∷ text_ask blobs_text ∷ text_ask yanks_text ∷ []) (text_ask cases_text ∷ []) _ _ _ c.from_residual-in_err-make_table-3.ensures.1
-    (more_tables g.S.Store (text_ask files_text ∷ text_ask blobs_text ∷ []) (text_ask yanks_text ∷ []) two (Err c.in_err-make_table-3.field-0.0) (c.in_err-make_table-3.ensures.made 6 refl))
+    let two = more_tables g.S.Store (text_ask files_text ∷ []) (text_ask blobs_text ∷ []) one (Ok c.in_ok-make_table-2.field-0)
+    (c.in_ok-make_table-2.ensures.made 5 refl) in
+    exits g.S.Store (text_ask files_text ∷ text_ask blobs_text ∷ text_ask yanks_text ∷ []) (text_ask cases_text ∷ [])
+    _ _ _ c.from_residual-in_err-make_table-3.ensures.1
+    (more_tables g.S.Store (text_ask files_text ∷ text_ask blobs_text ∷ []) (text_ask yanks_text ∷ []) two
+    (Err c.in_err-make_table-3.field-0.0) (c.in_err-make_table-3.ensures.made 6 refl))
 
 pub returns : goal.returns
 returns g c =
     let one = c.in_ok-make_table.ensures.made 4 refl in
-    let two = more_tables g.S.Store (text_ask files_text ∷ []) (text_ask blobs_text ∷ []) one (Ok c.in_ok-make_table-2.field-0) (c.in_ok-make_table-2.ensures.made 5 refl) in
-    let three = more_tables g.S.Store (text_ask files_text ∷ text_ask blobs_text ∷ []) (text_ask yanks_text ∷ []) two (Ok c.in_ok-make_table-3.field-0) (c.in_ok-make_table-3.ensures.made 6 refl) in
-    more_tables g.S.Store (text_ask files_text ∷ text_ask blobs_text ∷ text_ask yanks_text ∷ []) (text_ask cases_text ∷ []) three _ (c.make_table-4.ensures.made 7 refl)
+    let two = more_tables g.S.Store (text_ask files_text ∷ []) (text_ask blobs_text ∷ []) one (Ok c.in_ok-make_table-2.field-0)
+    (c.in_ok-make_table-2.ensures.made 5 refl) in
+    let three = more_tables g.S.Store (text_ask files_text ∷ text_ask blobs_text ∷ []) (text_ask yanks_text ∷ []) two
+    (Ok c.in_ok-make_table-3.field-0) (c.in_ok-make_table-3.ensures.made 6 refl) in
+    more_tables g.S.Store (text_ask files_text ∷ text_ask blobs_text ∷ text_ask yanks_text ∷ []) (text_ask cases_text ∷ []) three _
+    (c.make_table-4.ensures.made 7 refl)

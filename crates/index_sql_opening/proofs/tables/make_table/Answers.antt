@@ -8,5 +8,6 @@ pub returns : goal.returns
 returns g c = record {
   uncommitted = c.run_statement.ensures.uncommitted;
   made = λ n is.
-      text_taken g.S.Store _ _ (stage n) c.args.sql.now _ _ _ (table_sure n c.args.sql.now is) (λ b. (b.is_open, b.inside, b.schema)) (λ count b ran. stage_step n c.args.sql.now is _ _ count b ran) c.run_statement.ensures;
+      text_taken g.S.Store _ _ (stage n) c.args.sql.now _ _ _ (table_sure n c.args.sql.now is) (λ b. (b.is_open, b.inside, b.schema))
+      (λ count b ran. stage_step n c.args.sql.now is _ _ count b ran) c.run_statement.ensures;
 }

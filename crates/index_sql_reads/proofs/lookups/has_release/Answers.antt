@@ -9,7 +9,8 @@ returns-then-branch g c =
     (λ T found. sym (found c.if-branch.true))
 
 pub returns-in_err-has_usual_file-2 : goal.returns-in_err-has_usual_file-2
-returns-in_err-has_usual_file-2 g c = fails_then g.S.Store c.in_ok-has_usual_file.ensures c.in_err-has_usual_file-2.ensures c.from_residual-in_err-has_usual_file-2.ensures.1
+returns-in_err-has_usual_file-2 g c = fails_then g.S.Store c.in_ok-has_usual_file.ensures c.in_err-has_usual_file-2.ensures
+    c.from_residual-in_err-has_usual_file-2.ensures.1
 
 pub returns-then-branch-2 : goal.returns-then-branch-2
 returns-then-branch-2 g c =
@@ -19,7 +20,8 @@ returns-then-branch-2 g c =
 
 pub returns-in_err-found : goal.returns-in_err-found
 returns-in_err-found g c =
-    fails_then g.S.Store (finds_then g.S.Store c.in_ok-has_usual_file.ensures c.in_ok-has_usual_file-2.ensures) c.in_err-found.ensures c.from_residual-in_err-found.ensures.1
+    fails_then g.S.Store (finds_then g.S.Store c.in_ok-has_usual_file.ensures c.in_ok-has_usual_file-2.ensures)
+    c.in_err-found.ensures c.from_residual-in_err-found.ensures.1
 
 pub returns : goal.returns
 returns g c =

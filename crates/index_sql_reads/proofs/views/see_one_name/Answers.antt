@@ -7,7 +7,8 @@ pub returns-in_err-record : goal.returns-in_err-record
 returns-in_err-record g c = fails_then g.S.Store c.in_ok-owners.ensures c.in_err-record.ensures c.from_residual-in_err-record.ensures.1
 
 pub returns-in_err-case : goal.returns-in_err-case
-returns-in_err-case g c = fails_then g.S.Store (finds_then g.S.Store c.in_ok-owners.ensures c.in_ok-record.ensures) c.in_err-case.ensures c.from_residual-in_err-case.ensures.1
+returns-in_err-case g c = fails_then g.S.Store (finds_then g.S.Store c.in_ok-owners.ensures c.in_ok-record.ensures)
+    c.in_err-case.ensures c.from_residual-in_err-case.ensures.1
 
 pub returns : goal.returns
 returns g c =

@@ -6,7 +6,8 @@ pub returns-in_err-caller : goal.returns-in_err-caller
 returns-in_err-caller g c = fails_then g.S.Store c.in_ok-user.ensures c.in_err-caller.ensures c.from_residual-in_err-caller.ensures.1
 
 pub returns-in_err-bearer : goal.returns-in_err-bearer
-returns-in_err-bearer g c = fails_then g.S.Store (finds_then g.S.Store c.in_ok-user.ensures c.in_ok-caller.ensures) c.in_err-bearer.ensures c.from_residual-in_err-bearer.ensures.1
+returns-in_err-bearer g c = fails_then g.S.Store (finds_then g.S.Store c.in_ok-user.ensures c.in_ok-caller.ensures)
+    c.in_err-bearer.ensures c.from_residual-in_err-bearer.ensures.1
 
 pub returns : goal.returns
 returns g c =

@@ -19,11 +19,17 @@ returns g c =
     let old = c.args.conn.now in
     record {
       walked = λ clean.
-          walks_all g.S.Store select_held_text [] held_ends old c.walk.ensures.kept (c.walk.ensures.looks.was_clean clean) name_row_in held_rows_in selects_held
+          walks_all g.S.Store select_held_text [] held_ends old c.walk.ensures.kept (c.walk.ensures.looks.was_clean clean)
+          name_row_in held_rows_in selects_held
           g.K.Taker.takes g.K.Taker.stops it.rows c.args.taker.now c.walk.new.taker c.walk.result (it.shown clean) it.walks;
-      given = (map name_row_in it.rows, read_walks g.K.Taker.takes g.K.Taker.stops name_row_in it.rows c.args.taker.now c.walk.new.taker c.walk.result it.walks);
+      given = (
+        map name_row_in it.rows,
+        read_walks g.K.Taker.takes g.K.Taker.stops name_row_in it.rows c.args.taker.now c.walk.new.taker
+            c.walk.result it.walks,
+      );
       looks = c.walk.ensures.looks;
       reason = λ clean are.
-          ends_for g.S.Store select_held_text [] held_ends old c.walk.ensures.kept (c.walk.ensures.looks.was_clean clean) name_row_in held_rows_in selects_held
+          ends_for g.S.Store select_held_text [] held_ends old c.walk.ensures.kept (c.walk.ensures.looks.was_clean clean)
+          name_row_in held_rows_in selects_held
           IsNamedRow records are c.walk.new.conn c.walk.result ((c.walk.ensures.reason sure).reason clean);
     }

@@ -7,7 +7,8 @@ use Rattle.index_sql_writes.proofs.SureWrites.{put_case_sure}
 use Rattle.index_sql_writes.proofs.put_case.put_case.Goals as goal
 
 pub returns-in_err-numbers : goal.returns-in_err-numbers
-returns-in_err-numbers g c = too_much g.S.Store _ (case_numbers c.args.case.now) _ _ _ _ c.from_residual.ensures.1 c.in_err-numbers.ensures.too_much.1
+returns-in_err-numbers g c = too_much g.S.Store _ (case_numbers c.args.case.now)
+    _ _ _ _ c.from_residual.ensures.1 c.in_err-numbers.ensures.too_much.1
 
 pub returns : goal.returns
 returns g c =
@@ -18,4 +19,5 @@ returns g c =
     let why = subst IsUtf8 c.as_str-3.ensures c.as_str-3.utf8 in
     let fits = case_fits name case c.text.ensures.normal c.text-2.ensures.user contact work why c.in_ok-numbers.ensures.tally in
     fitting g.S.Store _ (case_numbers case) put_case_text (case_cells name case) (case_cells name case) _ _ _ refl
-    (step_of g.S.Store put_case_text (case_cells name case) _ _ _ _ _ put_case_sure (λ count. case_put name case fits _ _ count) (search rules) c.run_statement.ensures)
+    (step_of g.S.Store put_case_text (case_cells name case) _ _ _ _ _ put_case_sure (λ count. case_put name case fits _ _ count)
+    (search rules) c.run_statement.ensures)

@@ -7,4 +7,5 @@ use Rattle.index_sql_writes.proofs.SureWrites.{delete_body_sure}
 use Rattle.index_sql_writes.proofs.statements.delete_body.Goals as goal
 
 pub returns : goal.returns
-returns g c = step_of g.S.Store delete_body_text (Text c.args.file.now ∷ []) _ _ _ _ _ delete_body_sure (λ count. deletes c.args.file.now _ _ count) (search rules) c.run_statement.ensures
+returns g c = step_of g.S.Store delete_body_text (Text c.args.file.now ∷ []) _ _ _ _ _ delete_body_sure
+    (λ count. deletes c.args.file.now _ _ count) (search rules) c.run_statement.ensures

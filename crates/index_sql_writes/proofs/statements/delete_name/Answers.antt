@@ -7,4 +7,5 @@ use Rattle.index_sql_writes.proofs.SureWrites.{delete_name_sure}
 use Rattle.index_sql_writes.proofs.statements.delete_name.Goals as goal
 
 pub returns : goal.returns
-returns g c = step_of g.S.Store delete_name_text (Text c.args.name.now ∷ []) _ _ _ _ _ delete_name_sure (λ count. deletes c.args.name.now _ _ count) (search rules) c.run_statement.ensures
+returns g c = step_of g.S.Store delete_name_text (Text c.args.name.now ∷ []) _ _ _ _ _ delete_name_sure
+    (λ count. deletes c.args.name.now _ _ count) (search rules) c.run_statement.ensures

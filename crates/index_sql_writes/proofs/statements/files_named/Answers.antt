@@ -28,12 +28,14 @@ pub returns-in-Ok-clause-files : goal.returns-in-Ok-clause-files
 returns-in-Ok-clause-files g c clean =
     let old = state g.S.Store c.args.tx.now.conn.now in
     let new = state g.S.Store c.query_all.new.self.conn.now in
-    let shown = shown_with select_named_text (Text c.args.name.now ∷ []) _ old new c.in-Ok.rows.items (search rules) (c.in-Ok.ensures.ok clean) in
+    let shown = shown_with select_named_text (Text c.args.name.now ∷ []) _ old new c.in-Ok.rows.items (search rules)
+    (c.in-Ok.ensures.ok clean) in
     record {
       files = λ ready. statement.selects c.args.name.now old new c.in-Ok.rows.items ready.index shown;
       shown = λ can.
           let known = known_records old.now can.ready.index can.records in
-          statement.records c.args.name.now IsFiledRow RowShowsFileName (λ r it. (omega arith, it.file)) old new c.in-Ok.rows.items can.ready.index shown known.1.1.1.1.0;
+          statement.records c.args.name.now IsFiledRow RowShowsFileName (λ r it. (omega arith, it.file))
+          old new c.in-Ok.rows.items can.ready.index shown known.1.1.1.1.0;
     }
 
 pub returns-in-Err-clause-looked : goal.returns-in-Err-clause-looked
@@ -44,5 +46,6 @@ returns-in-Err-clause-looked g c = record {
     survives = c.query_all.ensures.survives;
   };
   made = λ clean. tt;
-  asked = λ clean can. query_goes select_named_text (Text c.args.name.now ∷ []) _ _ _ _ (search rules) (statement.sure c.args.name.now) can (c.in-Err.ensures.err clean);
+  asked = λ clean can. query_goes select_named_text (Text c.args.name.now ∷ []) _ _ _ _ (search rules) (statement.sure c.args.name.now) can
+      (c.in-Err.ensures.err clean);
 }

@@ -7,4 +7,5 @@ use Rattle.index_sql_writes.proofs.SureWrites.{put_ban_sure}
 use Rattle.index_sql_writes.proofs.statements.put_ban.Goals as goal
 
 pub returns : goal.returns
-returns g c = step_of g.S.Store put_ban_text (Text c.args.file.now ∷ []) _ _ _ _ _ put_ban_sure (λ count. puts c.args.file.now (λ id. c.text.ensures.file_name) _ _ count) (search rules) c.run_statement.ensures
+returns g c = step_of g.S.Store put_ban_text (Text c.args.file.now ∷ []) _ _ _ _ _ put_ban_sure
+    (λ count. puts c.args.file.now (λ id. c.text.ensures.file_name) _ _ count) (search rules) c.run_statement.ensures

@@ -18,7 +18,11 @@ invariant-loop-step g l =
     let now = state g.S.Store l.tx.conn.now in
     record {
       uncommitted : IsUncommitted g.S.Store l.fn.tx.conn l.tx.conn;
-      made : HasCleanDisk now → IsInTransaction first → IsInTransaction now × (all_of (drop l.step-index l.steps) (tables_in now.now.trees) ≡ all_of l.steps (tables_in first.now.trees)) × (now.committed ≡ first.committed) × (meta_in now.now.trees ≡ meta_in first.now.trees) × (AreRecords first.now → AreRecords now.now);
+      made : HasCleanDisk now → IsInTransaction first
+          → IsInTransaction now × (all_of (drop l.step-index l.steps) (tables_in now.now.trees)
+          ≡ all_of l.steps (tables_in first.now.trees)) × (now.committed ≡ first.committed)
+          × (meta_in now.now.trees ≡ meta_in first.now.trees) × (AreRecords first.now → AreRecords now.now);
       opened : 0 < l.step-index → HasCleanDisk now → IsTrue first.is_open;
-      asked : HasCleanDisk now → CanAsk first → (out : Outcome Database) → SqlAnswersEachAsk (asks_by (drop l.step-index l.steps)) now.now out → SqlAnswersEachAsk (asks_by l.steps) first.now out;
+      asked : HasCleanDisk now → CanAsk first → (out : Outcome Database)
+          → SqlAnswersEachAsk (asks_by (drop l.step-index l.steps)) now.now out → SqlAnswersEachAsk (asks_by l.steps) first.now out;
     }

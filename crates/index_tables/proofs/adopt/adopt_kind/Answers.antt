@@ -18,7 +18,8 @@ returns-in-Index-Ok-Some-eq2 g c =
     record {
       found = search rules;
       meta = search rules;
-      opened = looked_opened 2 g.S.Store IsRaised old new c.in-Index-Ok-Some-eq2.ensures.looks c.requires.rest refl (g.met.S.Store.settled new.store) index told;
+      opened = looked_opened 2 g.S.Store IsRaised old new c.in-Index-Ok-Some-eq2.ensures.looks c.requires.rest refl
+          (g.met.S.Store.settled new.store) index told;
       why = tt;
       refused = tt;
     }
@@ -30,4 +31,5 @@ returns-in-FirstVersion-Ok-Some-eq1 g c =
     let first : IsTrue (state g.S.Store old).is_open → IsFirstVersion (state g.S.Store old).now = search rules in
     let told : HasCleanDisk (state g.S.Store mid) → version_in (state g.S.Store old).now.trees ≡ Some 1 = search rules in
     let is : c.args.kind ≡ FirstVersion = search rules in
-    rw is (adopted_after g.S.Store old mid c.in-FirstVersion-Ok-Some-eq1.ensures.looks c.migrate_and_adopt.result first told c.migrate_and_adopt.ensures.fault c.migrate_and_adopt.ensures.adopts)
+    rw is (adopted_after g.S.Store old mid c.in-FirstVersion-Ok-Some-eq1.ensures.looks c.migrate_and_adopt.result first told
+    c.migrate_and_adopt.ensures.fault c.migrate_and_adopt.ensures.adopts)

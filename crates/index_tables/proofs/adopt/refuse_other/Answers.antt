@@ -10,7 +10,8 @@ returns-in-Ok g c =
     record {
       why = search rules;
       refused = looked_refused 2 g.S.Store IsRaised c.args.conn new c.told_version.ensures.looks c.requires.rest c.refusal.result
-          (λ clean. reason_told g.S.Store c.args.conn new c.requires.is c.in-Ok.version c.refusal.result (inr (c.in-Ok.ensures.version.told clean)) (search rules));
+          (λ clean. reason_told g.S.Store c.args.conn new c.requires.is c.in-Ok.version c.refusal.result
+          (inr (c.in-Ok.ensures.version.told clean)) (search rules));
     }
 
 pub returns-in-Err : goal.returns-in-Err
@@ -19,5 +20,6 @@ returns-in-Err g c =
     record {
       why = search rules;
       refused = looked_refused 2 g.S.Store IsRaised c.args.conn new c.told_version.ensures.looks c.requires.rest c.open_fault_of.result
-          (λ clean. reason_failed g.S.Store c.args.conn new c.requires.is c.in-Err.fault c.open_fault_of.result c.open_fault_of.ensures.is (c.in-Err.ensures.version.fails clean));
+          (λ clean. reason_failed g.S.Store c.args.conn new c.requires.is c.in-Err.fault c.open_fault_of.result c.open_fault_of.ensures.is
+          (c.in-Err.ensures.version.fails clean));
     }

@@ -23,7 +23,8 @@ returns-in-Ok-Some-eq3 g c =
         tables = ap (λ (d : Database). tables_in d.trees) (looks.now_is working.clean working.is_open);
       };
       meta = λ working. ap (λ (d : Database). meta_in d.trees) (looks.now_is working.clean working.is_open);
-      opened = looked_opened 3 g.S.Store MakesNothing old new looks c.requires.rest refl (g.met.S.Store.settled new.store) c.requires.is told;
+      opened = looked_opened 3 g.S.Store MakesNothing old new looks c.requires.rest refl (g.met.S.Store.settled new.store)
+          c.requires.is told;
       refused = tt;
     }
 
@@ -49,6 +50,7 @@ returns-in-Err g c =
       opened = tt;
       refused = record {
         why = inr (inr c.open_fault_of.ensures.fault);
-        left = looked_refused 3 g.S.Store MakesNothing c.args.conn c.read_version.new.conn c.in-Err.ensures.looks c.requires.rest c.open_fault_of.result (λ clean o placed. c.open_fault_of.ensures.fault);
+        left = looked_refused 3 g.S.Store MakesNothing c.args.conn c.read_version.new.conn c.in-Err.ensures.looks c.requires.rest
+            c.open_fault_of.result (λ clean o placed. c.open_fault_of.ensures.fault);
       };
     }

@@ -17,6 +17,7 @@ returns-clause-bound g c =
     let T = g.B.Books.tables c.args.self.now in
     let file = c.args.file.now in
     record {
-      found = λ honest. IfOk-weaker c.bytes_of.result _ _ (λ body is sound. subst (AreBytesOf T file) (sym is) (bytes-bound T sound file)) (rw c.self.view_is at (c.bytes_of.ensures.found honest));
+      found = λ honest. IfOk-weaker c.bytes_of.result _ _ (λ body is sound. subst (AreBytesOf T file) (sym is) (bytes-bound T sound file))
+          (rw c.self.view_is at (c.bytes_of.ensures.found honest));
       look = search rules;
     }

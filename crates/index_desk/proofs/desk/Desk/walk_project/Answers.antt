@@ -6,14 +6,17 @@ use Rattle.index_desk.proofs.desk.Desk.walk_project.Goals as goal
 
 pub returns-in_err-is_held : goal.returns-in_err-is_held
 returns-in_err-is_held g c =
-    hands_over _ _ _ _ _ _ _ (λ h stands. AreProjectRowsAfter-project_rows_in h _ stands c.args.name.now) (grind (arith, common_steps)) (search rules) (search rules)
+    hands_over _ _ _ _ _ _ _ (λ h stands. AreProjectRowsAfter-project_rows_in h _ stands c.args.name.now) (grind (arith, common_steps))
+    (search rules) (search rules)
 
 pub returns-in_err-walk_files : goal.returns-in_err-walk_files
 returns-in_err-walk_files g c =
     let given = c.in_err-walk_files.ensures.given in
-    hands_over _ _ _ _ _ _ _ (λ h stands. AreProjectRowsAfter-project_rows_in h _ stands c.args.name.now) (grind (arith, common_steps)) (Some given.0, grind (arith, common_steps)) (search rules)
+    hands_over _ _ _ _ _ _ _ (λ h stands. AreProjectRowsAfter-project_rows_in h _ stands c.args.name.now) (grind (arith, common_steps))
+    (Some given.0, grind (arith, common_steps)) (search rules)
 
 pub returns : goal.returns
 returns g c =
     let given = c.in_ok-walk_files.ensures.given in
-    hands_over _ _ _ _ _ _ _ (λ h stands. AreProjectRowsAfter-project_rows_in h _ stands c.args.name.now) (grind (arith, common_steps)) (Some given.0, (given.1, refl)) (search rules)
+    hands_over _ _ _ _ _ _ _ (λ h stands. AreProjectRowsAfter-project_rows_in h _ stands c.args.name.now) (grind (arith, common_steps))
+    (Some given.0, (given.1, refl)) (search rules)

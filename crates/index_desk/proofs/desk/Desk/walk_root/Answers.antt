@@ -6,4 +6,5 @@ use Rattle.index_desk.proofs.desk.Desk.walk_root.Goals as goal
 
 pub returns : goal.returns
 returns g c =
-    hands_over _ _ _ _ _ _ _ (λ h stands. AreHeldRowsAfter-held_rows_in h _ stands) (grind (arith, common_steps)) c.walk_held.ensures.given (search rules)
+    hands_over _ _ _ _ _ _ _ (λ h stands. AreHeldRowsAfter-held_rows_in h _ stands) (grind (arith, common_steps)) c.walk_held.ensures.given
+    (search rules)

@@ -10,7 +10,8 @@ returns g c = record {
       let T = g.B.Books.tables c.args.books.now in
       let name = c.args.row.now.name in
       let sizes : sum_by (λ (file : FileRow). file.size) c.as_slice.result.now ≡ charge_in T name =
-      ap (sum_by (λ (file : FileRow). file.size)) (c.as_slice.ensures.value ∙ c.in_ok-files.ensures.found honest) ∙ sizes_are_charged T name in
+      ap (sum_by (λ (file : FileRow). file.size)) (c.as_slice.ensures.value ∙ c.in_ok-files.ensures.found honest)
+      ∙ sizes_are_charged T name in
       ap not (c.is_sum.ensures ∙ (λ i. c.charge_of.ensures i == sizes i));
   look = search rules;
 }

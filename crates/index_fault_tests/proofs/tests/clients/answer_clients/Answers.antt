@@ -8,7 +8,8 @@ pub returns : goal.returns
 returns g c = record {
   named = λ honest one.
       let it = by_the_tables _ _ _ _ c.answer_connections.ensures.answers honest one in
-      let named = are_named _ _ c.args.clients.now c.answer_connections.new.connections _ _ refl (ap (λ it. Some (map sent_on it)) c.requires.new) refl in (
+      let named = are_named _ _ c.args.clients.now c.answer_connections.new.connections _ _ refl
+      (ap (λ it. Some (map sent_on it)) c.requires.new) refl in (
         it.0,
         it.1,
         record {

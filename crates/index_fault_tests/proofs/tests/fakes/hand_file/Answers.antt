@@ -7,7 +7,8 @@ returns-then-take g c =
     let row = c.args.row.now in record {
       given = (
         row ∷ [],
-        faulted_as g.K.Taker.takes g.K.Taker.stops c.args.fault c.from.result c.from.ensures row c.args.taker.now c.take.new.self (c.take.ensures.took c.if-take.true),
+        faulted_as g.K.Taker.takes g.K.Taker.stops c.args.fault c.from.result c.from.ensures row c.args.taker.now c.take.new.self
+            (c.take.ensures.took c.if-take.true),
       );
     }
 

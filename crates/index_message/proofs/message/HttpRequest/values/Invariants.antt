@@ -6,4 +6,5 @@ use Rattle.index_message.proofs.message.HttpRequest.values.Given as goal
 
 -- what was found, and what is left
 abbrev pub invariant-loop-field : goal.invariant-loop-field
-invariant-loop-field l = values_of l.name (map (header_bytes l.bytes) l.fields) ≡ map (λ value. value.now) l.values.items ++ values_from l.name l.bytes l.fields l.field-index
+invariant-loop-field l = values_of l.name (map (header_bytes l.bytes) l.fields) ≡ map (λ value. value.now) l.values.items
+    ++ values_from l.name l.bytes l.fields l.field-index

@@ -13,5 +13,6 @@ invariant_of-result c =
     record {
       agree = bearers_none _ _
           (ap (λ es. from_entries {R = bytes_cmp} es) c.new.ensures.empty)
-          (ap (λ es. pairs_of bytes_cmp bytes_cmp (from_entries {R = bytes_cmp} es)) c.new-2.ensures.empty ∙ pairs_empty nat_list_cmp_total nat_list_cmp_total exact_bytes exact_bytes);
+          (ap (λ es. pairs_of bytes_cmp bytes_cmp (from_entries {R = bytes_cmp} es)) c.new-2.ensures.empty
+          ∙ pairs_empty nat_list_cmp_total nat_list_cmp_total exact_bytes exact_bytes);
     }

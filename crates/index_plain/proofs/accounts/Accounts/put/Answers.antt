@@ -12,7 +12,8 @@ invariant_of-self c =
     let user = c.args.user.now in
     let users = map_of bytes_cmp before.users in
     let bearers = pairs_of bytes_cmp bytes_cmp (map_of bytes_cmp before.bearers) in
-    let token = sym c.token_of.ensures ∙ c.in-Some.is ∙ ap Some (same-is c.in-Some.former c.args.known.token (sym c.eq.ensures ∙ c.if-eq.true)) in
+    let token = sym c.token_of.ensures ∙ c.in-Some.is
+    ∙ ap Some (same-is c.in-Some.former c.args.known.token (sym c.eq.ensures ∙ c.if-eq.true)) in
     record {
       agree = either_way c.put.result _ _ _ _ _ c.put.ensures.written c.put.ensures.written c.put.ensures.unchanged c.put.ensures.unchanged
           (λ put _. bearers_same _ _ _ _ put refl (bearers_stay users user c.args.known bearers token before.agree))
@@ -22,7 +23,8 @@ invariant_of-self c =
 pub put_both-requires : goal.put_both-requires
 put_both-requires c =
     let before = c.args.self.now in
-    new_user_not_there (map_of bytes_cmp before.users) c.args.user.now c.args.known (pairs_of bytes_cmp bytes_cmp (map_of bytes_cmp before.bearers)) before.agree (sym c.token_of.ensures ∙ c.in-None.is)
+    new_user_not_there (map_of bytes_cmp before.users) c.args.user.now c.args.known
+    (pairs_of bytes_cmp bytes_cmp (map_of bytes_cmp before.bearers)) before.agree (sym c.token_of.ensures ∙ c.in-None.is)
 
 pub invariant_of-self-in-None : goal.invariant_of-self-in-None
 invariant_of-self-in-None c =
@@ -32,6 +34,7 @@ invariant_of-self-in-None c =
     let wrote = c.put_both.ensures in
     record {
       agree = either_way c.put_both.result _ _ _ _ _ wrote.user.written wrote.bearer.written wrote.user.unchanged wrote.bearer.unchanged
-          (λ put bearer. bearers_same _ _ _ _ put bearer (bearers_add users c.args.user.now c.args.known bearers (sym c.token_of.ensures ∙ c.in-None.is) before.agree))
+          (λ put bearer. bearers_same _ _ _ _ put bearer
+          (bearers_add users c.args.user.now c.args.known bearers (sym c.token_of.ensures ∙ c.in-None.is) before.agree))
           (λ same bearer. bearers_same _ _ _ _ same bearer before.agree);
     }

@@ -9,7 +9,8 @@ use Rattle.index_plain.proofs.accounts.Accounts.put_with_token.Goals as goal
 pub put_both-requires : goal.put_both-requires
 put_both-requires c =
     let before = c.args.self.now in
-    new_token_not_there (map_of bytes_cmp before.users) c.args.user.now c.args.known (pairs_of bytes_cmp bytes_cmp (map_of bytes_cmp before.bearers)) c.args.former before.agree c.requires.former c.requires.other
+    new_token_not_there (map_of bytes_cmp before.users) c.args.user.now c.args.known
+    (pairs_of bytes_cmp bytes_cmp (map_of bytes_cmp before.bearers)) c.args.former before.agree c.requires.former c.requires.other
 
 pub invariant_of-self-2 : goal.invariant_of-self-2
 invariant_of-self-2 c =

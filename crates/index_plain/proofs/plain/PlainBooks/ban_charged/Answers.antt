@@ -10,18 +10,24 @@ use Rattle.index_plain.proofs.plain.PlainBooks.ban_charged.Goals as goal
 
 pub put_back-requires : goal.put_back-requires
 put_back-requires c =
-    is_put nat_list_cmp_total (map_of bytes_cmp c.args.self.now.names) (map_of bytes_cmp c.replace.new.map) c.args.name.now (Held c.args.project) c.in_ok-before.ensures.put.written
+    is_put nat_list_cmp_total (map_of bytes_cmp c.args.self.now.names) (map_of bytes_cmp c.replace.new.map) c.args.name.now
+    (Held c.args.project) c.in_ok-before.ensures.put.written
 
 pub returns-in-Err : goal.returns-in-Err
 returns-in-Err c =
     let T = plain_tables c.args.self.now in
     let former = c.in_ok-before.before in
     let names = c.put_back.ensures
-    ∙ take_back nat_list_cmp_total exact_bytes T.names (map_of bytes_cmp c.replace.new.map) c.args.name.now (Held c.args.project) former c.in_ok-before.ensures.former c.in_ok-before.ensures.put.written in
+    ∙ take_back nat_list_cmp_total exact_bytes T.names (map_of bytes_cmp c.replace.new.map) c.args.name.now (Held c.args.project)
+    former c.in_ok-before.ensures.former c.in_ok-before.ensures.put.written in
     record {
       made = record {
         written = tt;
-        unchanged = λ i. record T { names = names i; files = c.in-Err.ensures.put.unchanged i; bans = c.in-Err.ensures.other_put.unchanged i };
+        unchanged = λ i. record T {
+          names = names i;
+          files = c.in-Err.ensures.put.unchanged i;
+          bans = c.in-Err.ensures.other_put.unchanged i;
+        };
         failures = search rules;
       };
     }

@@ -6,7 +6,8 @@ use Rattle.index_plain.proofs.plain.PlainBooks.ban_file.Goals as goal
 pub returns-in-None : goal.returns-in-None
 returns-in-None c = record {
   made = subst
-      (λ project. Makes (BanFile c.args.name.now project c.args.file.now c.args.known) c.args.self.now c.ban_alone.new.self c.ban_alone.result)
+      (λ project. Makes (BanFile c.args.name.now project c.args.file.now c.args.known)
+      c.args.self.now c.ban_alone.new.self c.ban_alone.result)
       (sym c.in-None.is)
       (c.ban_alone.ensures.made c.args.name.now);
 }

@@ -15,4 +15,5 @@ returns c =
     let rows = c.loop-file.rows.items in
     let none : c.loop-file.file-iterator ≡ [] = rest_all deref_pair _ _ _ c.in-None.is c.next.ensures.steps in
     sym (append-nil rows) ∙ ap (λ es. rows ++ file_rows_of (plain_tables books) c.args.name.now es) (sym none) ∙ c.loop-file.invariant
-    ∙ ap (file_rows_of (plain_tables books) c.args.name.now) (sym (entries_map nat_list_cmp_total exact_bytes books.files c.iter-file-items.ensures.ordered))
+    ∙ ap (file_rows_of (plain_tables books) c.args.name.now)
+    (sym (entries_map nat_list_cmp_total exact_bytes books.files c.iter-file-items.ensures.ordered))

@@ -14,8 +14,10 @@ returns g c =
     let name = c.args.name.now in
     let entry : Bytes × FileRecord = (c.args.file.now, c.args.known.now) in
     let listed : is_undeleted_of name c.args.known.now ≡ true = search rules in
-    let one : rows_of_file T name entry ≡ c.in_ok-row.row ∷ [] = ap (λ b. cond b (file_row_in T name entry ∷ []) []) listed ∙ ap (λ row. row ∷ []) (sym c.in_ok-row.ensures) in
+    let one : rows_of_file T name entry ≡ c.in_ok-row.row ∷ [] =
+    ap (λ b. cond b (file_row_in T name entry ∷ []) []) listed ∙ ap (λ row. row ∷ []) (sym c.in_ok-row.ensures) in
     record {
-      walked = stopped_at_one g.K.Taker.takes g.K.Taker.stops (rows_of_file T name entry) c.in_ok-row.row c.args.taker.now c.take.new.self one (c.take.ensures.stopped c.if-take.false);
+      walked = stopped_at_one g.K.Taker.takes g.K.Taker.stops (rows_of_file T name entry)
+          c.in_ok-row.row c.args.taker.now c.take.new.self one (c.take.ensures.stopped c.if-take.false);
       memory = search rules;
     }

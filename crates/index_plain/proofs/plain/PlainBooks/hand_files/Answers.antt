@@ -26,7 +26,8 @@ loop-file-preserved g c =
     let entry : Bytes × FileRecord = (c.in-Some.file.now, c.in-Some.entry.now) in
     GoesOn-more g.K.Taker.takes g.K.Taker.stops (rows all) (rows rest) (rows_of_file (plain_tables books) c.args.name.now entry) (rows left)
     c.args.taker.now c.loop-file.taker c.hand_file.new.taker c.loop-file.invariant
-    (file_rows_first (plain_tables books) c.args.name.now rest left entry (rest_more deref_pair _ _ _ (c.in-Some.file, c.in-Some.entry) c.in-Some.is c.next.ensures.steps))
+    (file_rows_first (plain_tables books) c.args.name.now rest left entry
+    (rest_more deref_pair _ _ _ (c.in-Some.file, c.in-Some.entry) c.in-Some.is c.next.ensures.steps))
     c.in_ok-hand_file.ensures.walked
 
 pub returns-in_err-hand_file : goal.returns-in_err-hand_file
@@ -42,11 +43,14 @@ returns-in_err-hand_file g c =
     let end = c.in_err-hand_file.field-0.0 in
     let told : c.from_residual.result ≡ Err end = search rules in
     record {
-      walked = subst (λ result. Walks takes stops (rows (entries (map_of bytes_cmp files))) c.args.taker.now c.hand_file.new.taker result) (sym told)
-          (subst (λ es. EndsEarly takes stops (rows es) c.args.taker.now c.hand_file.new.taker end) (sym (entries_map nat_list_cmp_total exact_bytes files c.iter-file-items.ensures.ordered))
+      walked = subst (λ result. Walks takes stops (rows (entries (map_of bytes_cmp files))) c.args.taker.now c.hand_file.new.taker result)
+          (sym told)
+          (subst (λ es. EndsEarly takes stops (rows es) c.args.taker.now c.hand_file.new.taker end)
+          (sym (entries_map nat_list_cmp_total exact_bytes files c.iter-file-items.ensures.ordered))
           (GoesOn-early takes stops (rows files.entries) (rows rest) (rows_of_file (plain_tables books) c.args.name.now entry) (rows left)
           c.args.taker.now c.loop-file.taker c.hand_file.new.taker end c.loop-file.invariant
-          (file_rows_first (plain_tables books) c.args.name.now rest left entry (rest_more deref_pair _ _ _ (c.in-Some.file, c.in-Some.entry) c.in-Some.is c.next.ensures.steps))
+          (file_rows_first (plain_tables books) c.args.name.now rest left entry
+          (rest_more deref_pair _ _ _ (c.in-Some.file, c.in-Some.entry) c.in-Some.is c.next.ensures.steps))
           c.in_err-hand_file.ensures.walked));
       memory = search rules;
     }
@@ -58,8 +62,10 @@ returns g c =
     let rows = file_rows_of (plain_tables books) c.args.name.now in
     let files = books.files in
     record {
-      walked = subst (λ es. Took takes (rows es) c.args.taker.now c.loop-file.taker) (sym (entries_map nat_list_cmp_total exact_bytes files c.iter-file-items.ensures.ordered))
-          (GoesOn-all takes g.K.Taker.stops (rows files.entries) (rows c.loop-file.file-iterator) c.args.taker.now c.loop-file.taker c.loop-file.invariant
+      walked = subst (λ es. Took takes (rows es) c.args.taker.now c.loop-file.taker)
+          (sym (entries_map nat_list_cmp_total exact_bytes files c.iter-file-items.ensures.ordered))
+          (GoesOn-all takes g.K.Taker.stops (rows files.entries) (rows c.loop-file.file-iterator)
+          c.args.taker.now c.loop-file.taker c.loop-file.invariant
           (ap rows (rest_all deref_pair _ _ _ c.in-None.is c.next.ensures.steps)));
       memory = search rules;
     }

@@ -9,8 +9,10 @@ use Rattle.index_plain.proofs.plain.PlainBooks.new.Goals as goal
 
 pub returns-clause-sound : goal.returns-clause-sound
 returns-clause-sound c =
-    IfOk-weaker c.with_first_user.result _ _ (λ books is. subst IsSound (sym is) (IsSound-opened c.args.user.now c.args.token)) c.with_first_user.ensures.tables
+    IfOk-weaker c.with_first_user.result _ _ (λ books is. subst IsSound (sym is) (IsSound-opened c.args.user.now c.args.token))
+    c.with_first_user.ensures.tables
 
 pub returns-clause-history : goal.returns-clause-history
 returns-clause-history c =
-    IfOk-weaker c.with_first_user.result _ _ (λ books is. subst (λ T. StandsFor T (begins c.args.user.now c.args.token)) (sym is) (StandsFor-opened c.args.user.now c.args.token)) c.with_first_user.ensures.tables
+    IfOk-weaker c.with_first_user.result _ _ (λ books is. subst (λ T. StandsFor T (begins c.args.user.now c.args.token)) (sym is)
+    (StandsFor-opened c.args.user.now c.args.token)) c.with_first_user.ensures.tables

@@ -16,7 +16,8 @@ pub returns : goal.returns
 returns c =
     let user = c.in_ok-user.user in
     let account = c.in_ok-user.record in
-    let users = c.in_ok-put.ensures.written ∙ ap (λ (m : Map UserRecord). insert m user account) c.new-accounts.ensures ∙ ap (λ (it : Bytes × UserRecord). insert empty it.0 it.1) c.in_ok-user.ensures.first in
+    let users = c.in_ok-put.ensures.written ∙ ap (λ (m : Map UserRecord). insert m user account) c.new-accounts.ensures
+    ∙ ap (λ (it : Bytes × UserRecord). insert empty it.0 it.1) c.in_ok-user.ensures.first in
     let owners = ap (λ es. pairs_of bytes_cmp bytes_cmp (from_entries {R = bytes_cmp} es)) c.new-2.ensures.empty ∙ no_pairs in
     let yanks = ap (λ es. pairs_of bytes_cmp bytes_cmp (from_entries {R = bytes_cmp} es)) c.new-5.ensures.empty ∙ no_pairs in
     record {

@@ -10,8 +10,10 @@ pub returns : goal.returns
 returns g c =
     let entry : Bytes × NameRecord = (c.args.name.now, c.args.known.now) in
     let held : is_held_row (name_row entry) ≡ true = ap (λ known. is_held (Some known)) c.in_default.is in
-    let one : held_rows_of (entry ∷ []) ≡ c.in_ok-row.row ∷ [] = ap (λ b. cond b (name_row entry ∷ []) []) held ∙ ap (λ row. row ∷ []) (sym c.in_ok-row.ensures) in
+    let one : held_rows_of (entry ∷ []) ≡ c.in_ok-row.row ∷ [] =
+    ap (λ b. cond b (name_row entry ∷ []) []) held ∙ ap (λ row. row ∷ []) (sym c.in_ok-row.ensures) in
     record {
-      walked = stopped_at_one g.K.Taker.takes g.K.Taker.stops (held_rows_of (entry ∷ [])) c.in_ok-row.row c.args.taker.now c.take.new.self one (c.take.ensures.stopped c.if-take.false);
+      walked = stopped_at_one g.K.Taker.takes g.K.Taker.stops (held_rows_of (entry ∷ []))
+          c.in_ok-row.row c.args.taker.now c.take.new.self one (c.take.ensures.stopped c.if-take.false);
       memory = search rules;
     }

@@ -5,7 +5,8 @@ use Rattle.index_tables.proofs.books.SqlBooks.into_connection.Goals as goal
 
 pub returns-clause-honest : goal.returns-clause-honest
 returns-clause-honest g c working =
-    let kept : HasVersion g.V.Version.number g.S.Store c.conn.inside.conn = subst (HasVersion g.V.Version.number g.S.Store) (sym c.conn.view_is) c.self.invariant in
+    let kept : HasVersion g.V.Version.number g.S.Store c.conn.inside.conn =
+    subst (HasVersion g.V.Version.number g.S.Store) (sym c.conn.view_is) c.self.invariant in
     record {
       clean = working.clean;
       is_open = working.is_open;

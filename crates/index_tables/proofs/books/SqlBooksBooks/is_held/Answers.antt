@@ -10,8 +10,14 @@ use Rattle.index_tables.proofs.books.SqlBooksBooks.is_held.Goals as goal
 
 pub returns : goal.returns
 returns g c =
-    let new : BooksState _ = record { conn = c.is_held-held.new.conn; failures = c.next_count-self-inside.result; stores = c.next_count-self-inside-2.result } in
+    let new : BooksState _ = record {
+      conn = c.is_held-held.new.conn;
+      failures = c.next_count-self-inside.result;
+      stores = c.next_count-self-inside-2.result;
+    } in
     let old : BooksState _ = record { conn = c.self.inside.conn; failures = c.self.inside.failures; stores = c.self.inside.stores } in
     let count : new.failures ≡ next_count old.failures (is_ok c.is_held-held.result) = search rules in
     let stores : CountsStoreFault old.stores new.stores (fails_by_store c.is_held-held.result) = search rules in
-    subst (λ before. LooksFor g.V.Version.number g.S.Store before new c.is_held-held.result (λ T it. it ≡ is_held (get T.names c.args.name.now))) c.self.view_is (finds g.V.Version.number g.S.Store old new _ _ c.is_held-held.ensures count stores)
+    subst (λ before. LooksFor g.V.Version.number g.S.Store before new c.is_held-held.result
+    (λ T it. it ≡ is_held (get T.names c.args.name.now))) c.self.view_is
+    (finds g.V.Version.number g.S.Store old new _ _ c.is_held-held.ensures count stores)

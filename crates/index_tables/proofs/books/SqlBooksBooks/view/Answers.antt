@@ -9,8 +9,13 @@ use Rattle.index_tables.proofs.books.SqlBooksBooks.view.Goals as goal
 
 pub returns : goal.returns
 returns g c =
-    let new : BooksState _ = record { conn = c.view-seen.new.conn; failures = c.next_count-self-inside.result; stores = c.next_count-self-inside-2.result } in
+    let new : BooksState _ = record {
+      conn = c.view-seen.new.conn;
+      failures = c.next_count-self-inside.result;
+      stores = c.next_count-self-inside-2.result;
+    } in
     let old : BooksState _ = record { conn = c.self.inside.conn; failures = c.self.inside.failures; stores = c.self.inside.stores } in
     let count : new.failures ≡ next_count old.failures (is_ok c.view-seen.result) = search rules in
     let stores : CountsStoreFault old.stores new.stores (fails_by_store c.view-seen.result) = search rules in
-    subst (λ before. LooksFor g.V.Version.number g.S.Store before new c.view-seen.result (λ T. Sees T c.args.keys.now)) c.self.view_is (finds g.V.Version.number g.S.Store old new _ _ c.view-seen.ensures count stores)
+    subst (λ before. LooksFor g.V.Version.number g.S.Store before new c.view-seen.result (λ T. Sees T c.args.keys.now)) c.self.view_is
+    (finds g.V.Version.number g.S.Store old new _ _ c.view-seen.ensures count stores)

@@ -11,7 +11,11 @@ use Rattle.index_tables.proofs.books.SqlBooksBooks.walk_held.Goals as goal
 pub returns : goal.returns
 returns g c =
     let rows_in = held_rows_in in
-    let new : BooksState _ = record { conn = c.walk_held-ended.new.conn; failures = c.next_count-self-inside.result; stores = c.next_count-self-inside-2.result } in
+    let new : BooksState _ = record {
+      conn = c.walk_held-ended.new.conn;
+      failures = c.next_count-self-inside.result;
+      stores = c.next_count-self-inside-2.result;
+    } in
     let old : BooksState _ = record { conn = c.self.inside.conn; failures = c.self.inside.failures; stores = c.self.inside.stores } in
     let count : new.failures ≡ next_count old.failures (not (has_fault c.walk_held-ended.result)) = search rules in
     let stores : CountsStoreFault old.stores new.stores (ends_by_store c.walk_held-ended.result) = search rules in

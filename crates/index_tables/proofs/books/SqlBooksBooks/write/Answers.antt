@@ -6,7 +6,8 @@ use Rattle.index_sql_schema.specs.Looks.{IsIndexConnection}
 use Rattle.index_sql_writes.specs.Changed.{MakesChange}
 use Rattle.index_sql_writes.specs.Transaction.{IsInvisibleIfShut}
 use Rattle.index_tables.specs.BooksState.{BooksState, HasVersion}
-use Rattle.index_tables.proofs.WriteLemmas.{honest_old, index_after, meta_kept, told_ok, write_alone, write_crash, write_keeps_version, write_lasts, write_records}
+use Rattle.index_tables.proofs.WriteLemmas.{honest_old, index_after, meta_kept, told_ok, write_alone, write_crash, write_keeps_version}
+use Rattle.index_tables.proofs.WriteLemmas.{write_lasts, write_records}
 use Rattle.index_tables.proofs.books.SqlBooksBooks.write.Goals as goal
 
 pub invariant_of-self-inside : goal.invariant_of-self-inside
@@ -14,7 +15,8 @@ invariant_of-self-inside g c =
     let old = c.args.self.now.conn in
     let new = c.make_change-made.new.conn in
     let index : IsIndexConnection g.S.Store old = search rules in
-    let kept : HasVersion g.V.Version.number g.S.Store old = subst (λ (b : BooksState _). HasVersion g.V.Version.number g.S.Store b.conn) c.self.view_is c.self.invariant in
+    let kept : HasVersion g.V.Version.number g.S.Store old =
+    subst (λ (b : BooksState _). HasVersion g.V.Version.number g.S.Store b.conn) c.self.view_is c.self.invariant in
     let makes : MakesChange g.S.Store (means c.args.change) old new c.make_change-made.result = search rules in
     index_after g.V.Version.number g.S.Store (means c.args.change) old new c.make_change-made.result index makes
 
@@ -23,7 +25,8 @@ invariant_of-self g c =
     let old = c.args.self.now.conn in
     let new = c.make_change-made.new.conn in
     let index : IsIndexConnection g.S.Store old = search rules in
-    let kept : HasVersion g.V.Version.number g.S.Store old = subst (λ (b : BooksState _). HasVersion g.V.Version.number g.S.Store b.conn) c.self.view_is c.self.invariant in
+    let kept : HasVersion g.V.Version.number g.S.Store old =
+    subst (λ (b : BooksState _). HasVersion g.V.Version.number g.S.Store b.conn) c.self.view_is c.self.invariant in
     let makes : MakesChange g.S.Store (means c.args.change) old new c.make_change-made.result = search rules in
     write_keeps_version g.V.Version.number g.S.Store (means c.args.change) old new c.make_change-made.result index makes kept
 
@@ -32,18 +35,23 @@ returns-clause-lasts g c =
     let old = c.args.self.now.conn in
     let new = c.make_change-made.new.conn in
     let index : IsIndexConnection g.S.Store old = search rules in
-    let kept : HasVersion g.V.Version.number g.S.Store old = subst (λ (b : BooksState _). HasVersion g.V.Version.number g.S.Store b.conn) c.self.view_is c.self.invariant in
+    let kept : HasVersion g.V.Version.number g.S.Store old =
+    subst (λ (b : BooksState _). HasVersion g.V.Version.number g.S.Store b.conn) c.self.view_is c.self.invariant in
     let makes : MakesChange g.S.Store (means c.args.change) old new c.make_change-made.result = search rules in
-    told_ok _ c.into_fault-told.result c.make_change-made.result c.into_fault-told.ensures.ok (write_lasts g.V.Version.number g.S.Store (means c.args.change) old new c.make_change-made.result index makes kept)
+    told_ok _ c.into_fault-told.result c.make_change-made.result c.into_fault-told.ensures.ok
+    (write_lasts g.V.Version.number g.S.Store (means c.args.change) old new c.make_change-made.result index makes kept)
 
 pub returns-clause-crash : goal.returns-clause-crash
 returns-clause-crash g c =
     let old = c.args.self.now.conn in
     let new = c.make_change-made.new.conn in
     let index : IsIndexConnection g.S.Store old = search rules in
-    let kept : HasVersion g.V.Version.number g.S.Store old = subst (λ (b : BooksState _). HasVersion g.V.Version.number g.S.Store b.conn) c.self.view_is c.self.invariant in
+    let kept : HasVersion g.V.Version.number g.S.Store old =
+    subst (λ (b : BooksState _). HasVersion g.V.Version.number g.S.Store b.conn) c.self.view_is c.self.invariant in
     let makes : MakesChange g.S.Store (means c.args.change) old new c.make_change-made.result = search rules in
-    let shut : IsInvisibleIfShut g.S.Store old new = subst (λ held. IsInvisibleIfShut g.S.Store held new) ((λ i. (c.self-inside.view_is i).conn) ∙ ap (λ (b : BooksState _). b.conn) c.self.view_is) c.make_change-made.ensures.shut in
+    let shut : IsInvisibleIfShut g.S.Store old new =
+    subst (λ held. IsInvisibleIfShut g.S.Store held new)
+    ((λ i. (c.self-inside.view_is i).conn) ∙ ap (λ (b : BooksState _). b.conn) c.self.view_is) c.make_change-made.ensures.shut in
     write_crash g.V.Version.number g.S.Store (means c.args.change) old new c.make_change-made.result index makes kept shut
 
 pub returns-clause-alone : goal.returns-clause-alone
@@ -51,18 +59,26 @@ returns-clause-alone g c honest =
     let old = c.args.self.now.conn in
     let new = c.make_change-made.new.conn in
     let index : IsIndexConnection g.S.Store old = search rules in
-    let kept : HasVersion g.V.Version.number g.S.Store old = subst (λ (b : BooksState _). HasVersion g.V.Version.number g.S.Store b.conn) c.self.view_is c.self.invariant in
+    let kept : HasVersion g.V.Version.number g.S.Store old =
+    subst (λ (b : BooksState _). HasVersion g.V.Version.number g.S.Store b.conn) c.self.view_is c.self.invariant in
     let makes : MakesChange g.S.Store (means c.args.change) old new c.make_change-made.result = search rules in
-    told_ok _ c.into_fault-told.result c.make_change-made.result c.into_fault-told.ensures.ok (write_alone g.V.Version.number g.S.Store (means c.args.change) old new c.make_change-made.result index makes kept (g.met.S.Store.settled new.store) honest)
+    told_ok _ c.into_fault-told.result c.make_change-made.result c.into_fault-told.ensures.ok
+    (write_alone g.V.Version.number g.S.Store (means c.args.change) old new c.make_change-made.result index makes kept
+    (g.met.S.Store.settled new.store) honest)
 
 pub returns-clause-call : goal.returns-clause-call
 returns-clause-call g c =
     let old = c.args.self.now.conn in
     let new = c.make_change-made.new.conn in
     let index : IsIndexConnection g.S.Store old = search rules in
-    let kept : HasVersion g.V.Version.number g.S.Store old = subst (λ (b : BooksState _). HasVersion g.V.Version.number g.S.Store b.conn) c.self.view_is c.self.invariant in
+    let kept : HasVersion g.V.Version.number g.S.Store old =
+    subst (λ (b : BooksState _). HasVersion g.V.Version.number g.S.Store b.conn) c.self.view_is c.self.invariant in
     let makes : MakesChange g.S.Store (means c.args.change) old new c.make_change-made.result = search rules in
-    let after : BooksState _ = record { conn = new; failures = c.next_count-self-inside-inside.result; stores = c.next_count-self-inside-inside-2.result } in
+    let after : BooksState _ = record {
+      conn = new;
+      failures = c.next_count-self-inside-inside.result;
+      stores = c.next_count-self-inside-inside-2.result;
+    } in
     let count : after.failures ≡ next_count c.args.self.now.failures (is_ok c.into_fault-told.result) = search rules in
     let stores : CountsStoreFault c.args.self.now.stores after.stores (fails_by_store c.into_fault-told.result) = search rules in
     record {
@@ -77,7 +93,8 @@ returns-clause-records g c =
     let old = c.args.self.now.conn in
     let new = c.make_change-made.new.conn in
     let index : IsIndexConnection g.S.Store old = search rules in
-    let kept : HasVersion g.V.Version.number g.S.Store old = subst (λ (b : BooksState _). HasVersion g.V.Version.number g.S.Store b.conn) c.self.view_is c.self.invariant in
+    let kept : HasVersion g.V.Version.number g.S.Store old =
+    subst (λ (b : BooksState _). HasVersion g.V.Version.number g.S.Store b.conn) c.self.view_is c.self.invariant in
     let makes : MakesChange g.S.Store (means c.args.change) old new c.make_change-made.result = search rules in
     write_records g.V.Version.number g.S.Store (means c.args.change) old new c.make_change-made.result index makes kept
 
@@ -86,7 +103,12 @@ returns-clause-meta g c =
     let old = c.args.self.now.conn in
     let new = c.make_change-made.new.conn in
     let index : IsIndexConnection g.S.Store old = search rules in
-    let kept : HasVersion g.V.Version.number g.S.Store old = subst (λ (b : BooksState _). HasVersion g.V.Version.number g.S.Store b.conn) c.self.view_is c.self.invariant in
+    let kept : HasVersion g.V.Version.number g.S.Store old =
+    subst (λ (b : BooksState _). HasVersion g.V.Version.number g.S.Store b.conn) c.self.view_is c.self.invariant in
     let makes : MakesChange g.S.Store (means c.args.change) old new c.make_change-made.result = search rules in
-    let after : BooksState _ = record { conn = new; failures = c.next_count-self-inside-inside.result; stores = c.next_count-self-inside-inside-2.result } in
+    let after : BooksState _ = record {
+      conn = new;
+      failures = c.next_count-self-inside-inside.result;
+      stores = c.next_count-self-inside-inside-2.result;
+    } in
     meta_kept g.V.Version.number g.S.Store (means c.args.change) c.args.self.now after c.make_change-made.result index makes

@@ -13,11 +13,16 @@ returns-then-not-has_meta g c =
       meta = tt;
       opened = tt;
       refused = subst (λ held. IsNotPlaced g.S.Store held (record { why = NotAnIndex; conn = conn })) c.expose_invariants-conn.ensures.same
-          (record { why = inl refl; left = refused_at_once g.S.Store conn NotAnIndex (search rules) (λ _. refused_unlike g.S.Store conn conn NotAnIndex (search rules)) });
+          (record {
+            why = inl refl;
+            left = refused_at_once g.S.Store conn NotAnIndex (search rules)
+                (λ _. refused_unlike g.S.Store conn conn NotAnIndex (search rules));
+          });
     }
 
 pub returns-in-Ok-true : goal.returns-in-Ok-true
-returns-in-Ok-true g c = subst (λ held. TakesPlaced g.S.Store held c.take_placed.result) c.expose_invariants-conn.ensures.same c.take_placed.ensures
+returns-in-Ok-true g c = subst (λ held. TakesPlaced g.S.Store held c.take_placed.result)
+    c.expose_invariants-conn.ensures.same c.take_placed.ensures
 
 pub returns-in-Ok-false : goal.returns-in-Ok-false
 returns-in-Ok-false g c =
@@ -25,7 +30,8 @@ returns-in-Ok-false g c =
       found = tt;
       meta = tt;
       opened = tt;
-      refused = subst (λ held. IsNotPlaced g.S.Store held c.refuse_unlike.result) c.expose_invariants-conn.ensures.same c.refuse_unlike.ensures;
+      refused = subst (λ held. IsNotPlaced g.S.Store held c.refuse_unlike.result)
+          c.expose_invariants-conn.ensures.same c.refuse_unlike.ensures;
     }
 
 pub returns-in-Err : goal.returns-in-Err
@@ -36,5 +42,8 @@ returns-in-Err g c =
       meta = tt;
       opened = tt;
       refused = subst (λ held. IsNotPlaced g.S.Store held (record { why = OutOfMemory; conn = conn })) c.expose_invariants-conn.ensures.same
-          (record { why = inr (inr (inl refl)); left = refused_at_once g.S.Store conn OutOfMemory (search rules) (λ _ o placed. inl refl) });
+          (record {
+            why = inr (inr (inl refl));
+            left = refused_at_once g.S.Store conn OutOfMemory (search rules) (λ _ o placed. inl refl);
+          });
     }

@@ -7,7 +7,8 @@ pub returns-in_err-kept_of-clause-finds : goal.returns-in_err-kept_of-clause-fin
 returns-in_err-kept_of-clause-finds g c =
     let now = c.args.self.now in
     let it = c.kept_of.ensures.looks in
-    finds_through c.from_residual.result c.args.file.now (side_of g.B.Books g.D.Disk now.books now.disk) (side_of g.B.Books g.D.Disk c.kept_of.new.self now.disk)
+    finds_through c.from_residual.result c.args.file.now (side_of g.B.Books g.D.Disk now.books now.disk)
+    (side_of g.B.Books g.D.Disk c.kept_of.new.self now.disk)
     it.unchanged refl it.crash (λ d left. left) it.call.honest it.call.clean (λ clean. clean) (search rules) (search rules)
 
 pub returns-in-None-clause-finds : goal.returns-in-None-clause-finds
@@ -16,21 +17,25 @@ returns-in-None-clause-finds g c =
     let it = c.kept_of.ensures.looks in
     finds_through _ c.args.file.now (side_of g.B.Books g.D.Disk now.books now.disk) (side_of g.B.Books g.D.Disk c.kept_of.new.self now.disk)
     it.unchanged refl it.crash (λ d left. left) it.call.honest it.call.clean (λ clean. clean)
-    (λ both. found_none (g.D.Disk.seen now.disk) c.args.file.now (g.B.Books.tables now.books) (ap (option_map (λ kept. kept.stored.items)) (sym c.in-None.is) ∙ c.in_ok-kept_of.ensures.found both.0))
+    (λ both. found_none (g.D.Disk.seen now.disk) c.args.file.now (g.B.Books.tables now.books)
+    (ap (option_map (λ kept. kept.stored.items)) (sym c.in-None.is) ∙ c.in_ok-kept_of.ensures.found both.0))
     (λ honest clean. it.lasts (ap is_ok c.in_ok-kept_of.was) honest clean)
 
 pub returns-in_err-bytes-in-Some-clause-finds : goal.returns-in_err-bytes-in-Some-clause-finds
 returns-in_err-bytes-in-Some-clause-finds g c =
     let now = c.args.self.now in
     let it = c.kept_of.ensures.looks in
-    finds_through c.from_residual-in_err-bytes-in-Some.result c.args.file.now (side_of g.B.Books g.D.Disk now.books now.disk) (side_of g.B.Books g.D.Disk c.kept_of.new.self c.read_stored.new.disk)
-    it.unchanged c.read_stored.ensures.same it.crash c.read_stored.ensures.crash it.call.honest it.call.clean c.read_stored.ensures.clean (search rules) (search rules)
+    finds_through c.from_residual-in_err-bytes-in-Some.result c.args.file.now (side_of g.B.Books g.D.Disk now.books now.disk)
+    (side_of g.B.Books g.D.Disk c.kept_of.new.self c.read_stored.new.disk)
+    it.unchanged c.read_stored.ensures.same it.crash c.read_stored.ensures.crash it.call.honest it.call.clean c.read_stored.ensures.clean
+    (search rules) (search rules)
 
 pub returns-in-Ok-clause-finds : goal.returns-in-Ok-clause-finds
 returns-in-Ok-clause-finds g c =
     let now = c.args.self.now in
     let it = c.kept_of.ensures.looks in
-    finds_through _ c.args.file.now (side_of g.B.Books g.D.Disk now.books now.disk) (side_of g.B.Books g.D.Disk c.kept_of.new.self c.read_stored.new.disk)
+    finds_through _ c.args.file.now (side_of g.B.Books g.D.Disk now.books now.disk)
+    (side_of g.B.Books g.D.Disk c.kept_of.new.self c.read_stored.new.disk)
     it.unchanged c.read_stored.ensures.same it.crash c.read_stored.ensures.crash it.call.honest it.call.clean c.read_stored.ensures.clean
     (λ both.
     let at : c.as_slice.result.now ≡ c.in-Some.kept.stored.items = cc in
@@ -43,5 +48,7 @@ pub returns-clause-finds : goal.returns-clause-finds
 returns-clause-finds g c =
     let now = c.args.self.now in
     let it = c.kept_of.ensures.looks in
-    finds_through _ c.args.file.now (side_of g.B.Books g.D.Disk now.books now.disk) (side_of g.B.Books g.D.Disk c.kept_of.new.self c.read_stored.new.disk)
-    it.unchanged c.read_stored.ensures.same it.crash c.read_stored.ensures.crash it.call.honest it.call.clean c.read_stored.ensures.clean (λ both. tt) tt
+    finds_through _ c.args.file.now (side_of g.B.Books g.D.Disk now.books now.disk)
+    (side_of g.B.Books g.D.Disk c.kept_of.new.self c.read_stored.new.disk)
+    it.unchanged c.read_stored.ensures.same it.crash c.read_stored.ensures.crash it.call.honest it.call.clean c.read_stored.ensures.clean
+    (λ both. tt) tt

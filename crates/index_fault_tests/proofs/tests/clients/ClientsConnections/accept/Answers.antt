@@ -6,4 +6,5 @@ use Rattle.index_fault_tests.proofs.tests.clients.ClientsConnections.accept.Goal
 
 pub returns-then-eq-clause-lost : goal.returns-then-eq-clause-lost
 returns-then-eq-clause-lost g c =
-    first_lost (λ exchange. exchange.0.now) sent_on _ c.client_of-client.result _ _ _ _ _ c.in-Some.ensures.steps (ap iter_rest c.keep.ensures.coming) c.keep.ensures.client c.client_of-client.ensures.unsent
+    first_lost (λ exchange. exchange.0.now) sent_on _ c.client_of-client.result _ _ _ _ _ c.in-Some.ensures.steps
+    (ap iter_rest c.keep.ensures.coming) c.keep.ensures.client c.client_of-client.ensures.unsent
