@@ -1,16 +1,18 @@
-"""Each break of tests/mutants/*.edits is seen by the tests that it names.
+"""Each break, above a test or in tests/mutants/*.edits, is seen by the tests that it names.
 
 In memory each is made in each run. With `--breaks`, or by turns with `--share`, each is made in a copy of the rooms,
 and its tests are run there, and have to fail."""
+import ast
 import glob
 import os
 import tempfile
 from dataclasses import dataclass
 
 import pytest
-from support.breaks import all_breaks, loose_names, names_of
+from support.breaks import NotMade, all_breaks, breaks_above, loose_names, names_of
 from support.inner_runs import Ended, names_in
 from support.places import TOP
+from support.planted import catches
 
 BREAKS, ROOMS = all_breaks(), ("server", "indexctl", "clients")
 # the longest part of a run of one break, in seconds: some start three kinds of servers first
@@ -61,6 +63,55 @@ def test_can_be_made(one):
     ("import a\nb: int = len(a.c)\ndef f(d=b):\n    global e\n    e = d\nf(e)", set())])
 def test_a_name_that_nothing_makes_is_known(text, names):
     assert loose_names(text) == names
+
+
+ABOVE = """
+@catches("a", "x", r"\\y", ("b", "1", "2"), case="", also=["test_c[d.py::e]", "server/test_f.py::test_g[h]"])
+@pytest.mark.slow
+@catches("a", "z", "")
+def test_a(index): pass
+class TestB:
+    @catches("a", "x", "y", case="3 - 4")
+    def test_c(self): pass
+"""
+
+
+@catches("tests/support/breaks.py", 'if ".py::" in it.partition("[")[0] else', 'if ".py::" in it else')
+@catches("tests/support/breaks.py", 'if "case" in given else test', 'if given.get("case") else test')
+@catches("tests/support/breaks.py", ', *given.get("more", ())]', "]")
+@catches("tests/support/breaks.py", 'for inside, body in [("", tree.body), *methods]', "for inside, body in methods")
+def test_a_break_stands_above_its_test():
+    one, two, three = breaks_above("tests/server/test_x.py", ast.parse(ABOVE))
+    here = "tests/server/test_x.py::"
+    assert (one.room, one.name, one.fault) == ("server", "test_x-test_a-1", "")
+    assert one.changes == [("a", "x", "\\y"), ("b", "1", "2")]
+    assert one.caught == [f"{here}test_a[]", f"{here}test_c[d.py::e]", "tests/server/test_f.py::test_g[h]"]
+    assert (two.name, two.changes, two.caught) == ("test_x-test_a-2", [("a", "z", "")], [f"{here}test_a"])
+    assert (three.name, three.caught) == ("test_x-TestB-test_c", [f"{here}TestB::test_c[3 - 4]"])
+
+
+@catches("tests/support/breaks.py", "for it in statements(tree):", "for it in tests:")
+@catches("tests/support/breaks.py", "except (TypeError, ValueError) as error:", "except ValueError as error:")
+@pytest.mark.parametrize("text, fault", [
+    ('@catches("a", OLD, "y")\ndef test_a(): pass', "in literals"),
+    ('@catches("a", "x")\ndef test_a(): pass', "missing a required argument: 'new'"),
+    ('@catches("a", "x", "y", under=1)\ndef test_a(): pass', "unexpected keyword argument 'under'"),
+    ('@catches("a", "x", "y")\ndef helper(): pass', "above no test"),
+    ('@catches("a", "x", "y")\nclass TestA: pass', "above no test"),
+    ('def test_a():\n    try: pass\n    finally:\n        @catches("a", "x", "y")\n        def test_b(): pass',
+     "above no test")])
+def test_a_break_that_can_not_be_read_fails_by_its_own_name(text, fault):
+    one, = breaks_above("tests/server/test_x.py", ast.parse(text))
+    with pytest.raises(NotMade, match=fault):
+        one.texts()
+
+
+@catches("tests/support/planted.py", "        return test", "        return lambda *words: test(*words)")
+def test_a_test_stays_as_it_is():
+    def test(index):
+        """It does nothing."""
+
+    assert catches("a", "x", "y", case="1")(test) is test
 
 
 def files_with_breaks():

@@ -1,6 +1,7 @@
 """Breaks of server/, indexctl/ and the texts beside them: what is wrong is made in a copy, and which test fails there.
 
-A break is a block of lines in a file of tests/mutants, with an empty line behind it:
+One of Python stands above the first test that fails there, as support/planted.py says: `@catches(FILE, OLD, NEW)`.
+Another is a block of lines in a file of tests/mutants, with an empty line behind it:
 
     name: A_NAME
     caught: tests/server/test_backups.py::test_a_backup_that_fills_the_disk_leaves_nothing
@@ -17,6 +18,7 @@ import ast
 import builtins
 import functools
 import glob
+import inspect
 import os
 import re
 import symtable
@@ -25,8 +27,9 @@ from dataclasses import dataclass, field
 
 from support.inner_runs import Ended, copy_rooms, run_tests
 from support.places import TOP
+from support.planted import catches
 
-MUTANTS = f"{TOP}/tests/mutants"
+MUTANTS, GIVEN = f"{TOP}/tests/mutants", inspect.signature(catches)
 
 
 class NotMade(Exception):
@@ -38,9 +41,9 @@ class Break:
     """One break: where it stands, its lines, and what is changed."""
     source: str
     name: str
-    caught: list = field(default_factory=list)
+    caught: list[str] = field(default_factory=list)
     # of each, the file, the old text and the new one
-    changes: list = field(default_factory=list)
+    changes: list[tuple[str, str, str]] = field(default_factory=list)
     program: str = ""
     alter: str = ""
     fault: str = ""
@@ -49,13 +52,13 @@ class Break:
     def room(self) -> str:
         return re.split(r"[./]", self.source)[0]
 
-    def texts(self) -> dict:
+    def texts(self) -> dict[str, str]:
         """The files that it changes, by their paths, as it makes them."""
         if self.fault:
             raise NotMade(self.fault)
         if not self.changes and not self.program and not self.alter:
             raise NotMade("it changes nothing")
-        made: dict = {}
+        made: dict[str, str] = {}
         for path, old, new in self.changes:
             if path not in made:
                 with open(f"{TOP}/{path}", encoding="utf-8") as kept:
@@ -65,9 +68,9 @@ class Break:
             made[path] = made[path].replace(old, new)
         return made
 
-    def loose_names(self) -> set:
+    def loose_names(self) -> set[str]:
         """Those that its Python files read since it was made, and that nothing makes: what fails then fails by them."""
-        found: set = set()
+        found: set[str] = set()
         for path, text in self.texts().items() if self.changes else ():
             with open(f"{TOP}/{path}", encoding="utf-8") as kept:
                 before = kept.read()
@@ -75,7 +78,7 @@ class Break:
                 found |= loose_names(text) - loose_names(before)
         return found
 
-    def unknown_tests(self) -> list:
+    def unknown_tests(self) -> list[str]:
         """Those at `caught` that no file has."""
         return [name for name in self.caught if not has_test(name)]
 
@@ -110,7 +113,7 @@ def tables_of(table: symtable.SymbolTable) -> Iterator[symtable.SymbolTable]:
         yield from tables_of(it)
 
 
-def loose_names(text: str) -> set:
+def loose_names(text: str) -> set[str]:
     """The names that a Python text reads, and that neither it nor Python makes."""
     top = symtable.symtable(text, "text", "exec")
     symbols = [(it, each) for it in tables_of(top) for each in it.get_symbols()]
@@ -120,21 +123,67 @@ def loose_names(text: str) -> set:
     return read - made - {*dir(builtins)}
 
 
+def text_of(path: str) -> str:
+    with open(f"{TOP}/{path}", encoding="utf-8") as kept:
+        return kept.read()
+
+
 @functools.cache
-def tests_of(path: str) -> dict:
+def tests_of(path: str) -> dict[str, tuple[str, ...]]:
     """The tests of a file by their names: of a class, the names of its methods."""
     try:
-        with open(f"{TOP}/{path}", encoding="utf-8") as kept:
-            tree = ast.parse(kept.read())
+        tree = ast.parse(text_of(path))
     except OSError:
         return {}
-    found: dict = {}
+    found: dict[str, tuple[str, ...]] = {}
     for it in tree.body:
         if isinstance(it, ast.FunctionDef):
             found[it.name] = ()
         elif isinstance(it, ast.ClassDef):
             found[it.name] = tuple(each.name for each in it.body if isinstance(each, ast.FunctionDef))
     return found
+
+
+def statements(node: ast.AST) -> Iterator[ast.AST]:
+    """A node and the statements in it: without what these are made of, which is most of a tree."""
+    yield node
+    for inner in ("body", "orelse", "handlers", "finalbody", "cases"):
+        for it in getattr(node, inner, ()):
+            yield from statements(it)
+
+
+def breaks_above(path: str, tree: ast.Module) -> Iterator[Break]:
+    """The breaks above the tests of a file, each with the name of its file and its test, and a number if there are
+    several. One that stands above something else fails by its own name."""
+    methods = [(f"{it.name}::", it.body) for it in tree.body if isinstance(it, ast.ClassDef)]
+    tests: dict[ast.AST, str] = {
+        each: f"{inside}{each.name}" for inside, body in [("", tree.body), *methods] for each in body
+        if isinstance(each, ast.FunctionDef) and each.name.startswith("test")}
+    file = os.path.basename(path).removesuffix(".py")
+    for it in statements(tree):
+        calls = [each for each in getattr(it, "decorator_list", ()) if isinstance(each, ast.Call)
+                 and ast.unparse(each.func) == catches.__name__]
+        name = f"{file}-{tests.get(it, getattr(it, 'name', ''))}".replace("::", "-")
+        for number, call in enumerate(calls, 1):
+            found = Break(os.path.relpath(path, "tests"), f"{name}-{number}" if len(calls) > 1 else name)
+            if it in tests:
+                read_call(found, path, tests[it], call)
+            else:
+                found.fault = "it stands above no test"
+            yield found
+
+
+def read_call(found: Break, path: str, test: str, call: ast.Call) -> None:
+    """Reads a break from what is given to `catches` above a test."""
+    try:
+        words = {str(it.arg): ast.literal_eval(it.value) for it in call.keywords}
+        given = GIVEN.bind(*map(ast.literal_eval, call.args), **words).arguments
+    except (TypeError, ValueError) as error:
+        found.fault = f"support/planted.py says what is given to it, in literals: {error}"
+        return
+    found.changes = [(given["file"], given["old"], given["new"]), *given.get("more", ())]
+    names = [f"{test}[{given['case']}]" if "case" in given else test, *given.get("also", ())]
+    found.caught = [f"tests/{it}" if ".py::" in it.partition("[")[0] else f"{path}::{it}" for it in names]
 
 
 def names_of(path: str) -> list[str]:
@@ -174,12 +223,18 @@ def read(source: str, number: int, block: str) -> Break:
     return found
 
 
-def all_breaks() -> list:
-    """The breaks of all files of tests/mutants, in the order of their names."""
+@functools.cache
+def all_breaks() -> list[Break]:
+    """The breaks above all tests, and those of all files of tests/mutants, in the order of their names."""
     found = []
     for file in sorted(glob.glob(f"{MUTANTS}/**/*.edits", recursive=True)):
         with open(file, encoding="utf-8") as kept:
             text = re.sub(r"^#.*\n", "", kept.read(), flags=re.M)
         blocks = re.split(r"\n{2,}", text.strip())
         found += [read(os.path.relpath(file, MUTANTS), at, it) for at, it in enumerate(blocks, 1) if it]
+    # (tests/out has what runs have left)
+    for path in sorted({*glob.glob("tests/**/*.py", root_dir=TOP, recursive=True)}
+                       - {*glob.glob("tests/out/**/*.py", root_dir=TOP, recursive=True)}):
+        text = text_of(path)
+        found += breaks_above(path, ast.parse(text)) if f"@{catches.__name__}(" in text else []
     return sorted(found, key=lambda it: (it.name, it.source))

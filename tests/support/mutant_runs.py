@@ -1,5 +1,5 @@
 """Mutants of server/ and indexctl/, and whether tests see them: first the unit tests of the room, and if these let one
-through, the tests that are known to see what is wrong in its file, by the breaks of tests/mutants."""
+through, the tests that are known to see what is wrong in its file, by its breaks."""
 from __future__ import annotations
 
 import ast

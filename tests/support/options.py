@@ -39,8 +39,8 @@ def add_options(parser) -> None:
                     "allocations of whole runs, one of so many; 50 if not given")
     group.addoption("--seed", type=int, metavar="N", default=random.randrange(10 ** 6), help="of what is random; "
                     "printed first")
-    group.addoption("--breaks", action="store_true", help="also make each break of tests/mutants in a copy, and run "
-                    "its tests there: 10 s each")
+    group.addoption("--breaks", action="store_true", help="also make each break in a copy, and run its tests there: "
+                    "10 s each")
     group.addoption("--build", action="store_true", help="also build the wrong programs of tests/mutants: some minutes "
                     "each")
     group.addoption("--prove", action="store_true", help="prove the crates with each edit of tests/mutants/programs: "
