@@ -7,6 +7,7 @@ from contextlib import ExitStack
 import pytest
 from support.clients.broken import BROKEN, BrokenIndex, taking
 from support.clients.forms import Service, form, message, sent
+from support.planted import catches
 from support.ports import free_port
 from support.seen import Seen
 from support.server.kept import Kept
@@ -30,6 +31,12 @@ def kept_index(program, shared_folder):
         yield index
 
 
+@catches("server/bin/index-legacy-upload", "timer.start()", "pass",
+         ("server/bin/index-legacy-upload", 'raise Refused(408, f"the', 'raise OSError(f"the'),
+         ("server/bin/index-legacy-upload",
+          'self.close_connection, self.file, self.note, self.caller = True, "-", "", ""',
+          "self.close_connection, self.file, self.note, self.caller = True, self.connection.settimeout(100) or "
+          '"-", "", ""'), also=["test_a_broken_index_is_told_and_not_waited_for"])
 @pytest.mark.slow
 def test_slow_and_silent_clients_are_ended_and_others_are_served(kept_index, looked):
     whole = message(form(WHEEL.format("7.0"), b"data"))
@@ -48,6 +55,8 @@ def test_slow_and_silent_clients_are_ended_and_others_are_served(kept_index, loo
         looked(took < 2 * MOST_SECONDS and (not reply or reply[0] == 408), Seen("a slow one", (reply, took), 408))
 
 
+@catches("server/bin/index-legacy-upload", "until = time.monotonic() + INDEX_SECONDS",
+         "time.sleep(70); until = time.monotonic() + INDEX_SECONDS")
 @pytest.mark.parametrize("way", BROKEN)
 def test_a_broken_index_is_told_and_not_waited_for(looked, way):
     with BrokenIndex(BROKEN[way]) as broken, Service(broken.port, seconds="3 3 1") as service:
@@ -59,6 +68,8 @@ def test_a_broken_index_is_told_and_not_waited_for(looked, way):
     looked(took < MOST_SECONDS, Seen(f"an index that {way}", f"{took:.1f} s", f"below {MOST_SECONDS} s"))
 
 
+@catches("server/bin/index-legacy-upload", "(0.5, 1, 2, 4)", "()",
+         also=["test_an_index_that_stays_away_is_waited_for_some_seconds"])
 def test_an_index_that_starts_meanwhile_is_asked_again(kept_index, looked):
     with Service(kept_index.port) as service, ThreadPoolExecutor(1) as pool:
         with kept_index.away():
@@ -81,6 +92,8 @@ def test_an_index_that_stays_away_is_waited_for_some_seconds(looked):
     looked(7 < took < 45, Seen("a form", f"{took:.1f} s", "7 to 45 s"))
 
 
+@catches("server/bin/index-legacy-upload", "threading.BoundedSemaphore(at_once)", "threading.BoundedSemaphore(64)",
+         also=["test_silent_connections_get_no_threads"])
 @pytest.mark.slow
 def test_many_large_forms_at_once_take_the_memory_of_four(looked):
     with BrokenIndex(taking) as busy, Service(busy.port) as service:

@@ -9,6 +9,7 @@ from support.clients.person import DEBIAN, machines_python, want_module
 from support.clients.sources import CHANGELOG, PDM, POETRY
 from support.clients.world import ANN, PASSWORD, READER
 from support.needed import want_command
+from support.planted import catches
 from support.running import write_below
 
 PIP = ["python3", "-m", "pip"]
@@ -112,6 +113,8 @@ def test_indexctl_takes_the_password(reader):
     reader.succeeds(reader.run(words, **setting), "frob-1.0-py3-none-any.whl")
 
 
+@catches("tests/support/clients/world.py", 'f"auth_basic packages;', 'f"auth_basic off;',
+         also=["test_a_password_for_all_clients_lets_pip_in", "test_a_wrong_password_lets_nobody_in"])
 @pytest.mark.follows("uscan", "A password for all clients", client="uscan")
 def test_uscan_takes_no_password(reader):
     for inner, text in (("changelog", CHANGELOG), ("control", "Source: frob\n"), ("copyright", "x\n")):

@@ -3,6 +3,7 @@ import os
 
 import pytest
 from support.clients.forms import BOUNDARY, END, Service, field, form
+from support.planted import catches
 from support.seen import Seen
 from support.serving import Index, accepted, sha256
 
@@ -51,6 +52,30 @@ def has_none(index, file, looked):
     looked(reply[0] == 404, Seen(f"GET of {file}", reply[0], 404))
 
 
+@catches("server/bin/index-legacy-upload", "self.send_response(status, reason)", "self.send_response(299, reason)",
+         also=["test_a_form_is_taken", "test_a_token_with_colons_is_taken_whole",
+               "test_a_refusal_of_the_index_is_told_in_a_sentence", "test_a_form_is_refused_and_the_index_is_not_asked",
+               "test_a_head_is_refused", "test_a_malformed_form_is_refused",
+               "test_a_form_that_breaks_off_at_any_byte_is_refused",
+               "clients/test_forms_service.py::test_a_broken_index_is_told_and_not_waited_for",
+               "clients/test_forms_service.py::test_an_index_that_starts_meanwhile_is_asked_again",
+               "clients/test_forms_service.py::test_an_index_that_stays_away_is_waited_for_some_seconds",
+               "clients/test_forms_service.py::test_many_large_forms_at_once_take_the_memory_of_four",
+               "clients/test_publishers.py::test_twine_is_refused_other_bytes",
+               "clients/test_publishers.py::test_twine_is_refused_a_zip_archive",
+               "clients/test_publishers.py::test_twine_is_refused_a_token_of_nobody",
+               "clients/test_publishers.py::test_poetry_publishes_and_is_refused_other_bytes",
+               "clients/test_publishers.py::test_the_address_of_uploads_answers_get_by_405"])
+@catches("server/bin/index-legacy-upload", 'connection.request("PUT", path, upload.data, upload.headers(token))',
+         'connection.request("GET", path, upload.data, upload.headers(token))',
+         also=["test_a_form_is_taken",
+               "clients/test_forms_service.py::test_slow_and_silent_clients_are_ended_and_others_are_served"])
+@catches("server/bin/index-legacy-upload",
+         'return {**found, "X-Requires-Python": self.requires} if self.requires else found', "return found",
+         ("server/bin/index-legacy-upload", 'other metadata stays in the file.")', 'thank you.")'),
+         ("server/bin/index-legacy-upload", 'else "is there already, with the same bytes"', 'else "uploaded"'),
+         also=["test_the_same_bytes_are_there_already_and_others_are_refused", "test_a_reply_says_what_is_kept",
+               "clients/test_publishers.py::test_flit_publishes"])
 def test_a_form_with_a_wheel_is_taken(service, forms_index, says, looked):
     file, data = WHEEL.format("1.0"), os.urandom(1000)
     says("a form", service.post(file, data, requires_python=">=3.7,\n <4", summary="é"), 200)
@@ -93,6 +118,8 @@ def test_a_form_is_taken(service, forms_index, says, looked, which):
     has_bytes(forms_index, file.replace("+", "%2B"), data, looked)
 
 
+@catches("server/bin/index-legacy-upload", '.decode("ascii").partition(":")', '.decode("ascii").rpartition(":")',
+         also=["clients/test_publishers.py::test_twine_uploads_with_a_token_that_has_colons"])
 def test_a_token_with_colons_is_taken_whole(service, says):
     says("a form", service.post("ham-1.0.tar.gz", DATA, "token:of:bob"), 200)
 
@@ -110,6 +137,8 @@ REFUSED_BY_THE_INDEX = {
 }
 
 
+@catches("server/bin/index-legacy-upload", 'if name == "NotOwner" else {}', 'if name == "Not" else {}',
+         case="a user who is not an owner")
 @pytest.mark.parametrize("which", REFUSED_BY_THE_INDEX)
 def test_a_refusal_of_the_index_is_told_in_a_sentence(service, says, which):
     file, data, token, fields, status, reason = REFUSED_BY_THE_INDEX[which]
@@ -193,6 +222,10 @@ def test_a_malformed_form_is_refused(service, forms_index, says, looked, which):
     has_none(forms_index, MALFORMED, looked)
 
 
+@catches("server/bin/index-legacy-upload", "if name in fields:", "if False:",
+         ("server/lib/package_index/forms.py", "if name in found:", "if False:"),
+         also=["test_a_form_is_refused_and_the_index_is_not_asked", "test_a_malformed_form_is_refused",
+               "clients/test_publishers.py::test_twine_is_refused_a_signature"])
 @pytest.mark.parametrize("which", LOST_BODIES)
 def test_a_form_is_refused_of_which_something_would_be_lost(service, forms_index, says, looked, which):
     body, reason = LOST_BODIES[which]

@@ -9,6 +9,7 @@ from concurrent.futures import ThreadPoolExecutor
 from support.clients.page import read_recipes
 from support.clients.world import PAGE
 from support.needed import want_command
+from support.planted import catches
 from support.running import run_command
 from support.seen import Seen
 
@@ -53,6 +54,7 @@ def test_an_authority_that_is_made_as_the_page_says_is_trusted_strictly(tmp_path
         looked((ended.returncode == 0) == is_taken, words, ended.stdout)
 
 
+@catches("tests/support/server/front.py", "worker_connections 768;", "worker_connections 72;")
 def test_nginx_serves_many_at_once_without_a_complaint(world, looked):
     files = [f"/files/{project}/{file}" for project, files in world.packages.items() for file in files]
     with ThreadPoolExecutor(AT_ONCE) as pool:

@@ -12,6 +12,7 @@ from support.indexctl.control import Control, environment
 from support.indexctl.scripted import always, as_json, scripted
 from support.needed import want_command
 from support.places import TOP
+from support.planted import catches
 from support.serving import Index, accepted
 
 pytestmark = pytest.mark.xdist_group("completion")
@@ -106,6 +107,10 @@ class Shell:
             return kept.read().split()
 
 
+@catches("indexctl/completion.py", 'COMPREPLY=($(compgen -W "$offers" -- "$word"))', "COMPREPLY=()",
+         ("indexctl/completion.py", 'set found (string match -- "$word*" $offers)', "set found"), case="bash-user",
+         also=["test_a_shell_completes_commands_and_options[zsh-user]",
+               "test_a_shell_completes_commands_and_options[fish-user]"])
 @pytest.mark.parametrize("what", BY_SCRIPT)
 def test_a_shell_completes_commands_and_options(shell, what):
     words, wanted = BY_SCRIPT[what]
@@ -124,6 +129,13 @@ def full_url(program):
         yield f"http://127.0.0.1:{index.port}"
 
 
+@catches("indexctl/completion.py", "if [[ -n $asks && $word != -* ]]; then", "if [[ -n $asks && $word = -* ]]; then",
+         ("indexctl/completion.py", 'if set -q asks[1]; and not string match -q -- "-*" $word',
+          'if set -q asks[1]; and string match -q -- "-*" $word'), case="bash-names",
+         also=["test_a_shell_completes_what_the_index_has[zsh-names]",
+               "test_a_shell_completes_what_the_index_has[fish-names]"])
+@catches("indexctl/completion.py", "if line and line.kind in FINDERS:", "if line and line.kind not in FINDERS:",
+         case="bash-names")
 @pytest.mark.parametrize("what", BY_INDEX)
 def test_a_shell_completes_what_the_index_has(shell, full_url, what):
     words, wanted = BY_INDEX[what]
@@ -133,6 +145,9 @@ def test_a_shell_completes_what_the_index_has(shell, full_url, what):
     assert offered == wanted
 
 
+@catches("indexctl/completion.py", "index = Index(find_setting(line.profile), 0, PATIENCE)",
+         "index = Index(find_setting(line.profile), 0)",
+         ("indexctl/completion.py", "looking.join(PATIENCE)", "looking.join(90)"))
 def test_nothing_is_offered_and_nothing_said_if_the_index_does_not_answer(shell):
     """Also by one that takes the connection and says nothing: other commands wait for that for a minute and a half, and
     a shell has a minute here."""
@@ -143,6 +158,8 @@ def test_nothing_is_offered_and_nothing_said_if_the_index_does_not_answer(shell)
             assert shell.offers(["who", "fro"], **setting) == [], setting
 
 
+@catches("indexctl/completion.py", "[it for it in found if PLAIN.fullmatch(it) and it not in line.given]",
+         "[it for it in found if it not in line.given]")
 def test_no_text_of_a_server_becomes_a_command(shell):
     names = [{"name": it} for it in ("fro$(touch /tmp/x)", "fro`id`", "fro;id", "fro b", "frob", "fro'", "fro\n-x")]
     with scripted(always(*as_json({"meta": {}, "projects": names}))) as server:

@@ -7,6 +7,7 @@ import pytest
 from support.indexctl.control import DAY, Control, assert_ends, filled, line, upload_line, user_lines
 from support.indexctl.terminal import lines_of, on_terminal
 from support.packages import wheel_name
+from support.planted import catches
 from support.serving import Index, sha256
 
 HOSTILE = "loses <data>; \u202e use 1.0 \U0001f4a5"
@@ -31,6 +32,10 @@ def by(program, folder):
         yield Control(folder, f"http://127.0.0.1:{index.port}")
 
 
+@catches("indexctl/contents.py", "return sorted(rows, key=lambda it: order(it.release), reverse=True)",
+         "return sorted(rows, key=lambda it: it.release, reverse=True)",
+         also=["test_releases_come_newest_first_with_the_reason_of_a_yank",
+               "indexctl/test_unit_contents.py::test_the_newest_release_comes_first_and_its_files_by_their_names"])
 def test_files_come_with_releases_sizes_yanks_and_digests(by):
     rows = by.rows("files", "FROB", "bare")
     assert [(row["file"], row["release"], row["size"], row["yanked"]) for row in rows] == [
@@ -46,6 +51,9 @@ def test_releases_come_newest_first_with_the_reason_of_a_yank(by):
         ("1.10", [WHEEL, "frob-1.10.tar.gz"], None), ("1.9", ["frob-1.9.tar.gz"], HOSTILE)]
 
 
+@catches("indexctl/commands/contents.py",
+         "cases[0] if cases else None, find_contents(desk.index, found.name, is_fresh=True) or [])", "None, [])",
+         also=["indexctl/test_unit_shown.py::test_a_status_has_all_of_a_name"])
 def test_a_status_shows_owners_quota_case_files_and_yanks(by):
     ended = by.run("status", "frob", INDEX_TOKEN=None)
     assert_ends(ended, 0, "Frob", "ann", "2.0 KiB of 1.0 GiB", "of bob, to reuse the name", "not begun",
@@ -55,6 +63,10 @@ def test_a_status_shows_owners_quota_case_files_and_yanks(by):
     assert len(row["files"]) == 3 and by.rows("status", "evil")["state"] == "prohibited"
 
 
+@catches("indexctl/near.py", "found = near(text, known)[:MOST_SHOWN]", "found = near(text, known)[:0]",
+         also=["test_a_person_is_shown_what_will_go_and_asked[a_slip_in_a_file]",
+               "test_a_person_is_shown_what_will_go_and_asked[a_slip_in_a_release]",
+               "test_a_person_is_shown_what_will_go_and_asked[a_slip_in_a_name]"])
 @pytest.mark.parametrize("words", [("files", "forb"), ("releases", "forb"), ("status", "forb")])
 def test_a_slip_in_a_name_is_answered_by_the_name(by, words):
     assert_ends(by.run(*words), 1, "Nobody holds forb. Did you mean `Frob`?")
@@ -69,6 +81,12 @@ ASKS = {
     "a_slip_in_a_name": (("file", "ban", "forb-1.9.tar.gz"), "Nobody holds forb. Did you mean `Frob`?", "office")}
 
 
+@catches("indexctl/commands/files.py",
+         '''confirm_on_terminal(args, f"{', '.join(projects)} will be deleted. {tell_files(desk.index, '''
+         'projects)}")', "tell_files(desk.index, projects)",
+         ("indexctl/commands/releases.py", "confirm_on_terminal(args, tell_releases(desk.index, pairs))",
+          "tell_releases(desk.index, pairs)"), case="delete",
+         also=["test_a_person_is_shown_what_will_go_and_asked[yank]"])
 @pytest.mark.parametrize("what", ASKS)
 def test_a_person_is_shown_what_will_go_and_asked(by, what):
     words, said, caller = ASKS[what]
@@ -78,6 +96,7 @@ def test_a_person_is_shown_what_will_go_and_asked(by, what):
     assert by.rows("files", "frob") == before
 
 
+@catches("indexctl/terminal.py", 'if answer.strip() != "yes":', 'if answer.strip() != "":')
 @pytest.mark.parametrize("what, types", [("delete", "yes\n"), ("yank", "yes\n")])
 def test_a_person_who_means_it_types_yes(by, what, types):
     words, _, caller = ASKS[what]
@@ -85,6 +104,9 @@ def test_a_person_who_means_it_types_yes(by, what, types):
     assert status == 0 and "accepted" in seen, seen
 
 
+@catches("indexctl/terminal.py",
+         '"""Asks a person alone: a script, which has no terminal, goes on as if it had said --yes."""',
+         "confirm(args, sentence)")
 @pytest.mark.parametrize("what", ["delete", "yank"])
 def test_a_script_is_not_asked(by, what):
     words, _, caller = ASKS[what]

@@ -12,6 +12,7 @@ import pytest
 from support.indexctl.control import Control, assert_ends, digest, filled, line, user_lines
 from support.indexctl.scripted import scripted, standing_of
 from support.packages import wheel_files, wheel_name
+from support.planted import catches
 from support.serving import JSON_PAGE, Index, accepted, sha256
 
 KINDS = "text/html", "application/vnd.pypi.simple.v1+html", JSON_PAGE
@@ -74,6 +75,8 @@ def moved_out(program, folder):
         yield by, index, f"{folder}/out"
 
 
+@catches("indexctl/moving/targets.py", "why = self.claim(self.project.shown or file.shown)",
+         "why = self.claim(self.name)")
 @pytest.mark.parametrize("count", [20, pytest.param(300, marks=[pytest.mark.slow, pytest.mark.timeout(900)])])
 def test_pages_are_the_same_in_an_index_that_was_empty(program, folder, count):
     names = ["frob-nest", *(f"p{at}" for at in range(count - 1))]
@@ -93,6 +96,7 @@ def test_pages_are_the_same_in_an_index_that_was_empty(program, folder, count):
     assert all(status == 200 for status, _ in wanted.values())
 
 
+@catches("indexctl/moving/exports.py", '"url": row["filename"],', '"url": row["url"],')
 def test_an_export_has_owners_and_a_page_beside_the_files(moved_out):
     _, index, out = moved_out
     assert {*os.listdir(out)} == {"owners.csv", "frob-nest", *(f"p{at}" for at in range(11))}
@@ -107,6 +111,9 @@ def test_an_export_has_owners_and_a_page_beside_the_files(moved_out):
     assert page["meta"]["api-version"] == "1.1" and page["_name"] == "P0"
 
 
+@catches("indexctl/moving/exports.py", "if hashlib.sha256(kept.read()).hexdigest() == digest:", "if False:")
+@catches("indexctl/moving/exports.py", "known = read_owners(path) if os.path.exists(path) else {}",
+         "known: Owners = {}")
 def test_a_second_export_writes_what_is_new_and_keeps_the_owners_of_others(moved_out):
     by, index, out = moved_out
     before = files_of(out)
@@ -120,6 +127,7 @@ def test_a_second_export_writes_what_is_new_and_keeps_the_owners_of_others(moved
     assert {path for path in before if before[path] != after[path]} == {"p0/index.json"}
 
 
+@catches("indexctl/moving/trees.py", "if item.sha256 and hashlib.sha256(data).hexdigest() != item.sha256:", "if False:")
 def test_files_that_were_damaged_lost_or_deleted_since_are_left(program, moved_out, folder):
     by, index, out = moved_out
     with open(f"{out}/p0/{wheel_name('p0', '1.0')}", "ab") as kept:
@@ -136,11 +144,14 @@ def test_files_that_were_damaged_lost_or_deleted_since_are_left(program, moved_o
                     "owners.csv names owners")
 
 
+@catches("indexctl/moving/exports.py", 'self.report.left.append(Left(name, "nobody holds it"))', "pass")
 def test_a_name_that_nobody_holds_is_left(moved_out):
     by, _, out = moved_out
     assert_ends(by.run("export", out, "p0", "p99"), 1, "1 project: ", "left: p99: nobody holds it")
 
 
+@catches("indexctl/moving/exports.py", 'rows = [it for it in found["files"] if read_file_name(it["filename"])]',
+         'rows = found["files"]')
 def test_no_name_of_an_index_leads_out_of_the_folder(folder):
     """A server in the place of an index gives names that are paths."""
     wicked, plain = "../../outside-1.0.tar.gz", "frob-1.0.tar.gz"
@@ -161,6 +172,8 @@ def test_no_name_of_an_index_leads_out_of_the_folder(folder):
         "owners.csv", "frob/index.json", f"frob/{plain}")}
 
 
+@catches("indexctl/commands/moving.py",
+         '''raise Stop(WRONG, f"{args.folder} can't be made: {end.strerror}") from end''', "raise")
 def test_a_folder_that_can_t_be_written_is_told(moved_out, folder):
     by, _, out = moved_out
     with open(f"{folder}/plain", "w", encoding="utf-8"):

@@ -12,6 +12,7 @@ from support.indexctl.control import Control, assert_ends, digest, put
 from support.indexctl.sources import (KINDS, PYTHON, artifactory, made_world, nexus, pypi_page, pypiserver, row_of,
                                       serving, wheel_of)
 from support.packages import wheel_name
+from support.planted import catches
 from support.serving import JSON_PAGE, Index, accepted, sha256
 
 WHEEL, SOURCE = wheel_name("frob", "1.0"), "frob-1.0.tar.gz"
@@ -70,6 +71,7 @@ def is_free(by: Control, name: str) -> bool:
     return b'"state":"free"' in by.index.ask("GET", f"/names/{name}")[2]
 
 
+@catches("indexctl/moving/targets.py", "if not any(row.yanked is not None for row in its):", "if False:")
 @pytest.mark.parametrize("kind", KINDS)
 def test_an_index_moves_in_with_its_yanks(by, world, kind):
     other = KINDS[kind](world, yanks={WHEEL: REASON, SOURCE: REASON})
@@ -83,6 +85,7 @@ def test_an_index_moves_in_with_its_yanks(by, world, kind):
     assert yanks(by, "frob") == {WHEEL: REASON, SOURCE: REASON}
 
 
+@catches("indexctl/moving/sources.py", "if self.is_digest_needed and not item.sha256:", "if False:")
 def test_without_a_sha_256_a_file_is_left_unless_that_is_asked_for(by, world):
     other = pypiserver(world)
     with serving(other.replies) as server:
@@ -94,6 +97,8 @@ def test_without_a_sha_256_a_file_is_left_unless_that_is_asked_for(by, world):
     assert_has(by, world)
 
 
+@catches("indexctl/moving/items.py", "return {its: count for its, count in sorted(hosts.items()) if its != host}",
+         "return {}")
 def test_a_few_releases_of_pypi_come_from_the_host_that_is_named_first(by, folder, world):
     with serving({f"/packages/{file}": ("x/y", data) for file, data in world["frob"].items()}) as files:
         other = files.url.replace("127.0.0.1", "localhost")
@@ -108,6 +113,8 @@ def test_a_few_releases_of_pypi_come_from_the_host_that_is_named_first(by, folde
     assert {*there(by, "frob")} == {WHEEL, SOURCE}
 
 
+@catches("indexctl/moving/pages.py", 'if text.partition(".")[0] not in ("", "1"):',
+         'if text not in ("", "1.0", "1.1"):')
 @pytest.mark.parametrize("version", ["1.0", "1.1", "1.2", "1.3", "1.4", "1.99"])
 def test_each_minor_version_of_json_is_read(by, world, version):
     rows = [row_of(file, data, f"../../f/{file}") for file, data in world["frob"].items()]
@@ -116,6 +123,8 @@ def test_each_minor_version_of_json_is_read(by, world, version):
         moved(by, f"{server.url}/simple/", "frob", said=["3 files imported"])
 
 
+@catches("indexctl/moving/pages.py", 'if text.partition(".")[0] not in ("", "1"):', "if False:",
+         ("indexctl/moving/sources.py", 'if page.status == "quarantined":', "if False:"))
 @pytest.mark.parametrize("page, why", [
     (pypi_page("frob", [], "2.0"), "the page has version 2.0"), (("text/plain", b"x"), "this is text/plain"),
     (pypi_page("frob", [], **{"project-status": {"status": "quarantined"}}), "the source has it in quarantine")])
@@ -126,6 +135,8 @@ def test_a_page_that_can_t_be_read_is_left_and_the_others_come(by, world, page, 
         moved(by, f"{server.url}{other.root}/", status=1, said=["1 file imported", f"left: frob: {why}"])
 
 
+@catches("indexctl/moving/web.py", "PASSING, REDIRECTS = (429, 500,", "PASSING, REDIRECTS = (500,")
+@catches("indexctl/moving/web.py", "if length is not None and size < length:", "if False:")
 def test_what_passes_by_itself_is_asked_for_again(by, world):
     other = artifactory(world)
 
@@ -153,6 +164,8 @@ def test_what_passes_by_itself_is_asked_for_again(by, world):
     assert_has(by, world)
 
 
+@catches("indexctl/moving/sources.py", "if item.sha256 and hashlib.sha256(reply.body).hexdigest() != item.sha256:",
+         "if False:")
 def test_bytes_that_are_not_those_of_the_page_are_left(by, world):
     other = nexus(world)
     path = next(it for it in other.replies if it.endswith(WHEEL))
@@ -162,6 +175,7 @@ def test_bytes_that_are_not_those_of_the_page_are_left(by, world):
               said=["3 files imported", f"left: {WHEEL}: its bytes have another digest than the page says"])
 
 
+@catches("indexctl/moving/sources.py", "if host != self.host:", "if False:")
 def test_redirects_are_followed_to_files_and_never_to_another_scheme_or_index(by, folder, world):
     put(f"{folder}/secret", "s3cret")
     rows = [row_of(file, data, f"/to/{file}") for file, data in world["frob"].items()]
@@ -187,6 +201,7 @@ def test_redirects_are_followed_to_files_and_never_to_another_scheme_or_index(by
     assert {*there(by, "frob")} == {*world["frob"]}
 
 
+@catches("indexctl/moving/web.py", 'login = self.login if parts.hostname == self.host else ""', "login = self.login")
 def test_a_password_goes_to_the_host_of_the_source_alone(by, folder, world):
     with serving({f"/f/{file}": ("x/y", data) for file, data in world["frob"].items()}) as files:
         other = files.url.replace("127.0.0.1", "localhost")
@@ -218,6 +233,7 @@ def tree(folder: str, world) -> str:
     return folder
 
 
+@catches("indexctl/moving/trees.py", "if os.path.commonpath([self.top, real]) != self.top:", "if False:")
 def test_a_folder_of_any_depth_moves_in_but_for_what_no_index_takes(by, folder, world):
     at = tree(f"{folder}/tree", world)
     put(f"{folder}/outside.whl", "x")
@@ -250,6 +266,7 @@ def test_a_folder_of_any_depth_moves_in_but_for_what_no_index_takes(by, folder, 
     assert is_free(by, "other")
 
 
+@catches("indexctl/moving/targets.py", "if row and row.sha256 != digest:", "if False:")
 def test_what_the_index_has_with_other_bytes_is_left(by, folder, world):
     at = tree(f"{folder}/tree", world)
     moved(by, at, said=["4 files imported"])
@@ -262,6 +279,7 @@ def test_what_the_index_has_with_other_bytes_is_left(by, folder, world):
     moved(by, at, status=1, said=["3 there already, 1 left", "the index has other bytes at this name"])
 
 
+@catches("indexctl/moving/targets.py", 'return answer if self.why(row, status, answer) else ""', 'return ""')
 def test_owners_of_a_file_become_owners_and_strangers_are_listed(by, folder, world):
     at = tree(f"{folder}/tree", world)
     owners = put(f"{folder}/owners.csv", "name,user\nFrob,bob\nfrob,carl\nspam-nest,bob\nspam-nest,carl\nnowhere,bob\n")
@@ -274,6 +292,7 @@ def test_owners_of_a_file_become_owners_and_strangers_are_listed(by, folder, wor
         moved(by, at, "--owners", owners, status=2, said=[f"{owners}, line 2: "])
 
 
+@catches("indexctl/moving/items.py", "if len(reasons) == len(items):", "if reasons:")
 def test_a_release_of_which_some_files_are_yanked_stays_and_is_listed(by, world):
     other = nexus(world, yanks={WHEEL: REASON})
     with serving(other.replies) as server:
@@ -282,6 +301,8 @@ def test_a_release_of_which_some_files_are_yanked_stays_and_is_listed(by, world)
     assert not yanks(by, "frob")
 
 
+@catches("indexctl/moving/targets.py", 'self.yank(spelled.release if spelled else "")',
+         'self.yank(spelled.release if spelled and is_new else "")')
 def test_a_later_yank_comes_with_the_next_run_and_none_is_taken_back(by, world):
     for now in ({}, {WHEEL: "", SOURCE: ""}, {}):
         other = nexus(world, yanks=now)
@@ -290,11 +311,13 @@ def test_a_later_yank_comes_with_the_next_run_and_none_is_taken_back(by, world):
     assert yanks(by, "frob") == {WHEEL: True, SOURCE: True}
 
 
+@catches("indexctl/commands/moving.py", 'if not args.dry_run and desk.caller() == "nobody":', "if False:")
 def test_a_token_of_nobody_imports_nothing(by, folder, world):
     moved(by, tree(f"{folder}/tree", world), caller="nobody", status=1,
           said=["No user has this token, which comes from INDEX_TOKEN. Nothing was imported."])
 
 
+@catches("indexctl/moving/trees.py", "if not os.path.isdir(folder):", "if False:")
 @pytest.mark.parametrize("source, why", [
     ("nowhere", "is neither a folder nor an address"), ("file:///etc", "is no address of http or https"),
     ("http://127.0.0.1:1/simple/", "127.0.0.1:1/simple/: it can't be reached"),
@@ -304,6 +327,7 @@ def test_a_source_that_is_none_is_told(by, source, why):
     assert ended.returncode in (2, 3) and why in ended.stdout, ended.stdout
 
 
+@catches("indexctl/moving/targets.py", "if status >= 500:", "if status >= 400:")
 def test_a_full_quota_leaves_the_rest_of_a_project_and_goes_on(by, index, folder, world):
     accepted(index.claim("frob", "mover"))
     accepted(index.request(do="set_quota", name="frob", quota=1500))
@@ -314,6 +338,7 @@ def test_a_full_quota_leaves_the_rest_of_a_project_and_goes_on(by, index, folder
     assert_has(by, world)
 
 
+@catches("indexctl/commands/moving.py", "note(text) if args.json else say(text))", "say(text))")
 def test_a_report_is_json_too(by, folder, world):
     at = tree(f"{folder}/tree", world)
     put(f"{at}/frob-1.0.zip", "x")

@@ -12,6 +12,7 @@ from support.indexctl.control import Control, assert_ends, filled, put, user_lin
 from support.indexctl.sources import made_world, nexus, serving
 from support.packages import wheel_name
 from support.places import INDEXCTL
+from support.planted import catches
 from support.server.stops import ended_before, is_reached, steps_of
 from support.serving import JSON_PAGE, Index, accepted
 
@@ -48,6 +49,8 @@ def walk(number: int, looked, run):
     looked(stopped >= FEWEST_STOPPED, stopped, count)
 
 
+@catches("indexctl/moving/targets.py", 'or self.look().state == "free" and not self.claimed:', "or not self.claimed:",
+         case="9")
 @pytest.mark.parametrize("number", SIGNALS)
 def test_an_import_that_was_stopped_is_done_by_a_second_one(program, folder, looked, number):
     path = filled(program, f"{folder}/index.db", user_lines("ann", "bob"))
@@ -68,6 +71,8 @@ def test_an_import_that_was_stopped_is_done_by_a_second_one(program, folder, loo
         walk(number, looked, run)
 
 
+@catches("indexctl/moving/exports.py", "os.makedirs(os.path.join(self.folder, page.name), exist_ok=True)",
+         "os.makedirs(os.path.join(self.folder, page.name))")
 @pytest.mark.parametrize("number", SIGNALS)
 def test_an_export_that_was_stopped_is_done_by_a_second_one(program, folder, looked, number):
     def files():

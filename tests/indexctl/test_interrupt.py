@@ -7,6 +7,7 @@ import time
 
 from support.indexctl.control import Control
 from support.indexctl.scripted import list_of, scripted, standing_of
+from support.planted import catches
 
 
 def take_interrupts():
@@ -14,6 +15,8 @@ def take_interrupts():
     signal.signal(signal.SIGINT, signal.default_int_handler)
 
 
+@catches("indexctl/main.py", "return INTERRUPTED", "raise", ("indexctl/main.py", "return PIPE_CLOSED", "raise"),
+         also=["test_a_reader_that_has_had_enough_ends_a_walk_in_silence"])
 def test_ctrl_c_ends_a_walk_at_once(folder):
     def slow(_, path, *__):
         if path == "/simple/":

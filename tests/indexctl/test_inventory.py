@@ -11,6 +11,7 @@ import pytest
 from support.indexctl.control import DAY, Control, assert_ends, filled, line, upload_line, user_lines
 from support.old_version import make_old_version
 from support.places import BIN
+from support.planted import catches
 from support.serving import Index
 
 pytestmark = pytest.mark.xdist_group("inventory")
@@ -66,12 +67,21 @@ def by(folder):
     return Control(folder, None, INDEX_TOKEN=None)
 
 
+@catches("indexctl/inventory.py", "users = [UserRow(user, office == 1,", "users = [UserRow(user, office == 2,",
+         also=["test_the_lists_are_told_in_words"])
+@catches("indexctl/inventory.py", "for name, its in owners.items() if len(its) == 1]",
+         "for name, its in owners.items()]")
+@catches("indexctl/inventory.py", "HELD, PROHIBITED = 1, 2", "HELD, PROHIBITED = 2, 1")
+@catches("indexctl/inventory.py", "(HELD, at - YEAR))]", "(HELD, at - YEAR + 1))]")
+@catches("indexctl/commands/inventory.py", "moment_of(args.backup))", "1_900_000_000 or moment_of(args.backup))",
+         also=["test_a_backup_of_the_first_version_has_no_bans"])
 def test_a_backup_lists_what_the_index_does_not(by, copy):
     found = by.rows("inventory", copy)
     assert (found.pop("backup"), found.pop("at")) == (copy, NOW)
     assert found == WANTED
 
 
+@catches("indexctl/inventory.py", 'AND (last_upload IS NULL OR last_upload <= ?) "', 'AND (last_upload <= ?) "')
 def test_the_lists_are_told_in_words(by, copy):
     ended = by.run("inventory", copy)
     assert_ends(ended, 0, "2026-11-18 10:33 UTC", "Users: 4", "Prohibited names: 1", "Banned files: 2",
@@ -81,6 +91,7 @@ def test_the_lists_are_told_in_words(by, copy):
     assert ["quiet", "ann", "never"] in rows and ["old-one", "ann", "2025-11-18", "10:33", "UTC"] in rows
 
 
+@catches("indexctl/backups.py", "yield database", "os.utime(path); yield database")
 def test_reading_a_backup_leaves_no_trace(by, copy):
     folder = os.path.dirname(copy)
     with open(copy, "rb") as kept:
@@ -91,18 +102,21 @@ def test_reading_a_backup_leaves_no_trace(by, copy):
         assert before == (kept.read(), sorted(os.listdir(folder)), os.stat(copy).st_mtime_ns)
 
 
+@catches("indexctl/inventory.py", '''AND name = 'bans'").fetchone():''', '''AND name = 'files'").fetchone():''')
 def test_a_backup_of_the_first_version_has_no_bans(by, folder):
     make_old_version(f"{folder}/old.db")
     found = by.rows("inventory", f"{folder}/old.db")
     assert found["banned"] == [] and found["users"] and found["at"] == int(os.stat(f"{folder}/old.db").st_mtime)
 
 
+@catches("indexctl/backups.py", 'if os.path.exists(f"{path}-wal"):', "if False:")
 def test_the_database_of_an_index_that_serves_is_refused(by, program, folder):
     with Index(program, path=filled(program, f"{folder}/a b?#%41.db", lines())):
         ended = by.run("inventory", f"{folder}/a b?#%41.db")
     assert_ends(ended, 2, "is the database of an index", "Name a backup of it.")
 
 
+@catches("indexctl/backups.py", "{Path(path).absolute().as_uri()}?mode", "file:{path}?mode")
 def test_a_path_may_have_any_character(by, copy, folder):
     path = f"{folder}/a b?mode=rw#%41.db"
     os.link(copy, path)
@@ -122,6 +136,7 @@ def damaged(folder):
     return paths
 
 
+@catches("indexctl/backups.py", "if found != (KIND,):", "if False:")
 def test_what_is_no_backup_is_told_as_such(by, folder, looked):
     said = {"none": "can't be read: No such file", "folder": "can't be read: Is a directory",
             "text": "can't be read as a backup of an index: file is not a database",

@@ -7,6 +7,7 @@ import pytest
 from support.indexctl.control import DAY, Control, digest, filled, line, upload_line, user_lines
 from support.indexctl.scripted import always, as_json, scripted
 from support.packages import make_wheel, wheel_files, wheel_name
+from support.planted import catches
 from support.serving import Index, sha256
 
 pytestmark = pytest.mark.xdist_group("json")
@@ -60,12 +61,18 @@ CHANGES = {
         {"do": "look", "file": "egg-1.0.tar.gz", "status": 404, "served": False}])}
 
 
+@catches("indexctl/terminal.py", "say(sentence, printed=json.dumps(row))", "say(sentence)",
+         also=["indexctl/test_unit_json.py::test_a_row_is_printed_in_place_of_the_text_and_a_sum_to_standard_error"])
 @pytest.mark.parametrize("words", CHANGES)
 def test_each_change_is_a_row_with_its_answer(by, words):
     caller, wanted = CHANGES[words]
     assert asked(by, *words.split(), caller=caller) == wanted
 
 
+@catches("indexctl/changes.py", 'self.say(sentence, {**told, "hint": advice})',
+         'self.say(sentence, {**told, "hint": advice, **shown})')
+@catches("indexctl/commands/users.py", 'by_row: Row = {"token": token} if token else {}', "by_row: Row = {}",
+         also=["test_a_reply_that_is_lost_leaves_the_token_in_a_row"])
 def test_users_come_with_their_tokens_and_a_refused_one_without(by):
     found = asked(by, "user", "add", "dave", "ann", "fay", status=1)
     assert [(it["do"], it["user"], it["answer"], "token" in it) for it in found] == [
@@ -77,12 +84,17 @@ def test_users_come_with_their_tokens_and_a_refused_one_without(by):
         assert by.rows("token", "check", caller=it["token"])[0]["caller"] == "user"
 
 
+@catches("indexctl/changes.py", 'self.say(sentence, {**told, "hint": advice})', "pass",
+         also=["test_users_come_with_their_tokens_and_a_refused_one_without",
+               "test_an_answer_with_hostile_text_is_one_line"])
 def test_a_refusal_is_a_row_before_the_run_ends(by):
     found = asked(by, "name", "claim", "x", "y", caller="nobody", status=1)
     assert [(it["name"], it["status"], it["answer"]) for it in found] == [("x", 401, "BadToken")]
     assert "No user has this token" in found[0]["hint"]
 
 
+@catches("indexctl/terminal.py", "note(sentence)", "say(sentence)", also=["test_a_record_is_replayed_by_rows"])
+@catches("indexctl/commands/work.py", "say_row(args.json, text, {", "say_row(False, text, {")
 def test_an_upload_is_a_row_for_each_file(by, folder):
     path = f"{folder}/{FILE}"
     make_wheel(path, wheel_files("spam", "1.0", ""))
@@ -101,6 +113,8 @@ def asked_size(path):
         return len(made.read())
 
 
+@catches("indexctl/commands/work.py", '{"do": "page", "path": path, "names": len(found.owners), "cases": len(cases)})',
+         "None)")
 def test_pages_and_tokens_are_rows_too(by, folder):
     assert asked(by, "page", folder) == [{"do": "page", "path": f"{folder}/index.html", "names": 3, "cases": 1}]
     ended = by.run("token", "digest", "--json", given="abc\n")
@@ -109,6 +123,8 @@ def test_pages_and_tokens_are_rows_too(by, folder):
     assert digest(made["token"]) == made["digest"]
 
 
+@catches("indexctl/commands/work.py", 'desk.say("", {**line.row, "line": line.number, "answer": "left", "hint": why})',
+         "pass")
 def test_a_record_is_replayed_by_rows(by, folder):
     record = f"{folder}/record"
     for words in (("name", "allow", "x"), ("name", "claim", "mine")):
@@ -121,6 +137,8 @@ def test_a_record_is_replayed_by_rows(by, folder):
     assert asked(by, "replay", record, "--since", "1970-01-01T00:00:00Z")[0]["answer"] == "already"
 
 
+@catches("indexctl/commands/users.py", "and token and not desk.is_json:", "and token:",
+         also=["indexctl/test_unit_json.py::test_a_token_is_in_the_row_of_its_user_alone"])
 def test_what_is_said_to_a_person_is_on_standard_error(by):
     ended = by.run("user", "rotate", "eve", "--json")
     assert "such as a pipeline of eve" in ended.stderr and len(rows(ended)) == 1

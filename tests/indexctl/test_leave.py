@@ -3,11 +3,14 @@ from __future__ import annotations
 
 import pytest
 from support.indexctl.control import Control, assert_ends, filled, line, rows_of, user_lines
+from support.planted import catches
 from support.serving import Index
 
 pytestmark = pytest.mark.xdist_group("leave")
 
 
+@catches("indexctl/standings.py", 'if is_fresh else ""', 'if not path else ""',
+         also=["indexctl/test_unit_standings.py::test_a_fresh_page_is_asked_for_as_nobody_asked_before"])
 def test_a_name_claimed_a_moment_ago_is_passed_on(program, open_folder, certificate):
     from support.server.front import Front
     path = filled(program, f"{open_folder}/leave.db", user_lines("bob", "eve"))
@@ -22,6 +25,8 @@ def test_a_name_claimed_a_moment_ago_is_passed_on(program, open_folder, certific
     assert rows_of(path, "SELECT name, user FROM owners") == [("frob", "bob")]
 
 
+@catches("indexctl/commands/users.py", "if found.case and found.case.candidate == user:", "if found.case and not user:",
+         also=["indexctl/test_unit_commands.py::test_the_cases_of_a_user_who_leaves_are_closed"])
 def test_a_name_does_not_pass_to_who_has_left(program, folder):
     texts = {"kind": "reuse", "contact": "a", "work": "b", "why": "c"}
     path = filled(program, f"{folder}/cases.db", [

@@ -12,6 +12,7 @@ import pytest
 from support.indexctl.control import (DAY, Control, Ended, assert_ends, digest, filled, line, rows_in, rows_of,
                                       upload_line, user_lines)
 from support.packages import make_packages, wheel_name
+from support.planted import catches
 from support.serving import Index
 
 pytestmark = pytest.mark.xdist_group("month")
@@ -161,11 +162,77 @@ def month(program: str, open_folder: str, certificate: str) -> Month:
     return made
 
 
+@catches("indexctl/commands/users.py", "return sha256(token), token", "return sha256(token), None",
+         case="ten_users_are_added",
+         also=["test_a_task_is_one_command[a_pipeline_s_user]", "test_a_task_is_one_command[a_token_is_rotated]",
+               "test_each_user_has_the_token_that_was_printed"])
+@catches("indexctl/terminal.py", "if args.yes:", "if True:", case="a_user_of_the_office_asks_first",
+         also=["test_a_task_is_one_command[a_transfer_asks_first]", "test_a_task_is_one_command[a_ban_asks_first]",
+               "test_a_task_is_one_command[a_prohibition_asks_first]",
+               "indexctl/test_terminal.py::test_an_answer_that_is_not_yes_does_nothing"])
+@catches("indexctl/commands/users.py", 'row = {"do": "set_token", "user": args.user, "token_sha256": digest}',
+         'row = {"do": "add_user", "user": args.user, "office": False, "token_sha256": digest}',
+         case="a_token_is_rotated", also=["test_a_task_is_one_command[the_old_token_ends]"])
+@catches("indexctl/commands/names.py", 'desk.change(what.format(name), {"do": do, "name": name, **row})',
+         'desk.change(what.format(name), {"do": "allow" if do == "claim" else "claim", "name": name})',
+         case="a_pipeline_s_names",
+         also=["test_the_tables_say_so_afterwards[the_pipeline_owns_them]",
+               "test_a_task_is_one_command[names_are_claimed]", "test_a_task_is_one_command[an_owner_that_is_no_user]",
+               "test_a_task_is_one_command[who_may_is_told]", "test_a_task_is_one_command[a_name_of_others]",
+               "test_the_tables_say_so_afterwards[its_shown_name]", "test_a_task_is_one_command[dist_is_uploaded]",
+               "test_the_tables_say_so_afterwards[its_files]"])
+@catches("indexctl/commands/releases.py", '{"do": "yank", "name": name, "release": release,',
+         '{"do": "yank", "name": name, "release": "7",', case="a_release_is_yanked")
+@catches("indexctl/units.py", '**{f"{it}IB": 1024 ** at for at, it in enumerate("KMGT", 1)}, "B": 1}',
+         '**{f"{it}IB": 1000 ** at for at, it in enumerate("KMGT", 1)}, "I8": 1, "B": 1}', case="a_quota_is_raised",
+         also=["test_the_tables_say_so_afterwards[the_quota_is_that]"])
+@catches("indexctl/units.py", r'found = re.fullmatch(r"(\+?)(\d+(?:\.\d+)?) ?([A-Za-z]*)", text, re.ASCII)',
+         r'found = re.match(r"(\+?)(\d+(?:\.\d+)?) ?((?:[A-Za-z]i?B)?)", text, re.ASCII)', case="a_slip_in_a_quota")
+@catches("indexctl/changes.py", 'sentence = f"{what}: {status} {answer}. {advice}".rstrip()',
+         'sentence = f"{what}: {status} {answer}."', case="a_quota_below_the_charge",
+         also=["test_a_task_is_one_command[an_owner_that_is_no_user]", "test_a_task_is_one_command[who_may_is_told]",
+               "test_a_task_is_one_command[a_name_of_others]", "test_a_task_is_one_command[a_transfer_too_soon]"])
+@catches("indexctl/commands/cases.py",
+         'argument("means", metavar="MEANS", choices=MEANS, help="profile, author or pages"),',
+         'argument("means", metavar="MEANS", help="profile, author or pages"),', case="a_slip_in_the_means")
+@catches("indexctl/commands/cases.py",
+         'return each_name(args, "record_attempt", what, means=args.means, sent=not args.not_sent)',
+         'args.names = ["z"]; return each_name(args, "allow", what)', case="an_attempt",
+         also=["test_the_year_is_seen_without_a_transfer", "test_a_task_is_one_command[a_transfer]",
+               "test_the_tables_say_so_afterwards[the_name_has_passed]"])
+@catches("indexctl/commands/names.py", 'return each_name(args, "add_owner",', 'return each_name(args, "remove_owner",',
+         case="an_owner_is_added")
+@catches("indexctl/commands/files.py", 'if desk.change(f"ban {file}", {"do": "ban_file", "file": file}):',
+         'if desk.change(f"ban {file}", {"do": "allow", "name": "-"}):',
+         ("indexctl/commands/names.py", 'if desk.change(f"prohibit {name}", {"do": "prohibit", "name": name}):',
+          'if desk.change(f"prohibit {name}", {"do": "allow", "name": "-"}):'), case="a_ban",
+         also=["test_the_tables_say_so_afterwards[the_file_is_banned]", "test_a_task_is_one_command[a_prohibition]",
+               "test_the_tables_say_so_afterwards[the_name_is_prohibited]",
+               "test_the_tables_say_so_afterwards[its_file_is_deleted]", "indexctl/test_terminal.py::test_yes_does_it"])
+@catches("indexctl/commands/users.py", "if alone and not args.to:", "if alone is None:",
+         ("indexctl/commands/users.py", "if args.to == args.user:", "if not args.user:"),
+         ("indexctl/commands/users.py", "if user and not desk.is_user(user):", "if not user:"),
+         ("indexctl/commands/users.py", "pass_on(desk, found, user, heir, token)", "pass"),
+         ("indexctl/commands/users.py",
+          'if desk.change(f"user {user}: lock", {"do": "set_token", "user": user, "token_sha256": sha256(token)}):',
+          'if desk.change(f"user {user}: lock", {"do": "allow", "name": "free"}):'), case="who_leaves_needs_an_heir",
+         also=["test_a_task_is_one_command[an_heir_who_leaves]", "test_a_task_is_one_command[an_heir_that_is_no_user]",
+               "test_a_task_is_one_command[a_user_leaves]", "test_a_task_is_one_command[the_user_is_locked_out]",
+               "test_the_tables_say_so_afterwards[the_owners_of_frob]",
+               "test_the_tables_say_so_afterwards[the_user_owns_nothing]",
+               "test_the_tables_say_so_afterwards[the_heir_owns_it]"])
 @pytest.mark.parametrize("task", TASKS, ids=lambda it: named(it.name))
 def test_a_task_is_one_command(month: Month, task: Task) -> None:
     assert_ends(month.ended[task.name], task.status, *task.said)
 
 
+@catches("indexctl/commands/users.py",
+         'row = {"do": "add_user", "user": user, "office": args.office, "token_sha256": digest}',
+         'row = {"do": "add_user", "user": user, "office": True, "token_sha256": digest}',
+         case="no_user_is_of_the_office_by_a_slip")
+@catches("indexctl/commands/releases.py", '"reason": args.reason})', '"reason": ""})', case="the_yank_has_its_reason")
+@catches("indexctl/commands/cases.py", 'return each_name(args, "record_attempt", what',
+         'args.names = ["omega"]; return each_name(args, "record_attempt", what', case="one_case_is_left")
 @pytest.mark.parametrize("what", TABLES, ids=named)
 def test_the_tables_say_so_afterwards(month: Month, what: str) -> None:
     query, rows = TABLES[what]
@@ -178,12 +245,16 @@ def test_each_user_has_the_token_that_was_printed(month: Month) -> None:
     assert {user: users[user] for user in printed} == printed
 
 
+@catches("indexctl/quotas.py", "if it.full >= above), key", "if above), key")
 def test_a_quota_is_near_its_end_from_the_percent_on_that_was_given(month: Month) -> None:
     for task in ("quotas near the end", "quotas from 90 on"):
         assert [(row["name"], row["full"]) for row in month.rows(task)] == [("gamma", 90.0)]
     assert month.rows("quotas above 90") == []
 
 
+@catches("indexctl/cases.py", 'lacks += [f"an attempt by {it}" for it in MEANS if not case.has(it)]', "lacks += []",
+         ("indexctl/cases.py", "earliest = max(now, (now if case.first is None else case.first) + SIX_WEEKS)",
+          "earliest = now"), also=["test_a_case_says_what_it_lacks", "test_a_task_is_one_command[a_transfer_too_soon]"])
 def test_open_cases_come_with_the_moment_at_which_each_can_be_ready(month: Month) -> None:
     # alpha's six weeks are over, and omega's are not; a transfer of neither gets as far as the year
     seen = [(row["name"], row["sent"], row["year"], row["earliest"] - month.began > 20 * DAY)
@@ -200,6 +271,10 @@ def test_the_year_is_seen_without_a_transfer(month: Month) -> None:
     assert (first["name"], first["year"], first["ready"]) == ("alpha", "over", True)
 
 
+@catches("indexctl/commands/listings.py", 'if row.case else ""}, lambda row: row.given)',
+         'if row.case else ""}, lambda row: {**row.given, "owners": []})',
+         ("indexctl/commands/listings.py", "rows = [OwnedRow(it.name, len(it.owners) == 1, it.owners, it.charge,",
+          "rows = [OwnedRow(it.name, True, it.owners, it.charge,"), also=["test_what_a_user_owns_alone_is_marked"])
 def test_who_shows_owners_as_the_index_gives_them(month: Month) -> None:
     held, free = month.rows("who owns a name")
     assert (held["name"], held["state"], held["owners"]) == ("beta", "held", ["ann", "bob", "cibuild"])

@@ -6,6 +6,7 @@ import os
 import pytest
 from support.indexctl.control import Control
 from support.indexctl.scripted import always, as_json, scripted
+from support.planted import catches
 
 ACCEPTED = always(*as_json({"answer": "accepted"}))
 CLAIMS = "name", "claim", "a", "b"
@@ -18,6 +19,7 @@ def ended(folder, url, words, stdout, **setting):
         return run.wait(timeout=60), errors
 
 
+@catches("indexctl/main.py", "drop(sys.stdout)", "pass")
 @pytest.mark.parametrize("words", [("--help",), ("man",), ("token", "new"), ("names", "--json"), CLAIMS],
                          ids=lambda it: it[0].strip("-"))
 def test_a_full_disk_is_told_in_a_sentence(folder, words):
@@ -28,6 +30,7 @@ def test_a_full_disk_is_told_in_a_sentence(folder, words):
     assert "Exception ignored" not in errors and "Traceback" not in errors, errors
 
 
+@catches("indexctl/terminal.py", "note(text)", "pass", also=["test_what_was_done_is_told_if_nobody_reads_the_output"])
 @pytest.mark.parametrize("unbuffered", [None, "1"])
 def test_what_was_done_and_can_t_be_printed_is_told_and_nothing_more_is_done(folder, unbuffered):
     with scripted(ACCEPTED) as server, open("/dev/full", "wb") as full:
@@ -45,6 +48,8 @@ def test_what_was_done_is_told_if_nobody_reads_the_output(folder, unbuffered):
         assert len(server.asked) == 1
 
 
+@catches("indexctl/terminal.py", "drop(sys.stderr)", "pass",
+         also=["test_notes_that_can_t_be_printed_leave_nothing_undone"])
 def test_the_status_is_the_same_if_errors_can_t_be_printed_either(folder):
     """As by `2>&1 | head`."""
     read, write = os.pipe()
@@ -55,6 +60,7 @@ def test_the_status_is_the_same_if_errors_can_t_be_printed_either(folder):
                 assert run.wait(timeout=60) == status
 
 
+@catches("indexctl/terminal.py", "drop(sys.stderr)", "raise")
 def test_notes_that_can_t_be_printed_leave_nothing_undone(folder):
     def answer(method, *_):
         return as_json({"files": []} if method == "GET" else {"answer": "accepted"})

@@ -15,6 +15,7 @@ from support.clients.page import read_recipes
 from support.indexctl.control import Control, assert_ends, digest, environment, put
 from support.packages import make_source
 from support.places import TOP
+from support.planted import catches
 from support.serving import Index
 
 PAGE, USING = f"{TOP}/docs/users/OWNING.md", f"{TOP}/docs/users/USING.md"
@@ -90,6 +91,8 @@ def dated(*days):
     return ["1.0", "1.1.dev0", *(f"1.1.dev{today - datetime.timedelta(days=it):%Y%m%d}" for it in days)]
 
 
+@catches("indexctl/room.py", "if day and (today - day).days > days]", "if not day or (today - day).days > days]",
+         also=["indexctl/test_unit_room.py::test_only_what_is_older_by_its_version_goes"])
 def test_the_timer_of_the_page_deletes_old_nightly_builds(by, folder):
     """Its block is pasted where `systemctl` writes down what it is asked for; then its unit is read and run."""
     put(f"{folder}/bin/systemctl", '#!/bin/sh\necho "$@" >> "$HOME/asked"\n', 0o755)

@@ -20,6 +20,7 @@ from support.indexctl.rows import held
 from support.indexctl.sample import CASES, MARKUP, NAMES, QUOTA, USERS, lines_of
 from support.needed import want_module
 from support.places import NGINX, SERVER, TOP
+from support.planted import catches
 from support.running import run_command
 from support.serving import Index
 
@@ -64,28 +65,38 @@ def office(program, shared_folder):
     return Office(f"{folder}/index.html", text, ended, (brief, brief_text), nowhere, refused, left, is_kept)
 
 
+@catches("indexctl/probe.py", "having = [(it, it.case) for it in names if it.case]",
+         "having = [(it, it.case) for it in names if it.case and not it]",
+         also=["test_there_is_each_case_and_what_is_due_in_it", "test_texts_are_escaped",
+               "test_the_page_has_the_cases_and_quotas", "test_a_search_leaves_what_has_the_word"])
 def test_the_page_is_written(office):
     assert_ends(office.ended, 0, "18 names, 4 open cases")
     assert os.stat(office.path).st_mode & 0o777 == 0o644
 
 
+@catches("indexctl/commands/work.py", "if not os.path.isdir(args.folder):", "if not args.folder:")
 def test_a_page_for_no_folder_is_refused(office):
     assert_ends(office.nowhere, 2, "not a folder")
 
 
+@catches("indexctl/page.py", "os.replace(part, path)", '__import__("shutil").copyfile(part, path)')
 def test_nothing_is_left_beside_the_page(office):
     assert office.left == ["index.html"]
 
 
+@catches("indexctl/page.py", 'part = f"{path}.part"', "part = path")
 def test_a_page_that_can_t_be_written_leaves_the_one_before(office):
     assert_ends(office.refused, 2, "can't be written", "What was there stays.")
     assert office.is_kept
 
 
+@catches("indexctl/quotas.py", "for owner in found.owners:", "for owner in found.owners[:0]:",
+         also=["test_who_owns_alone_is_marked", "test_a_telephone_need_not_scroll_sideways"])
 def test_there_is_a_row_for_each_name_and_each_owner(office):
     assert Reader(office.text).rows == len(NAMES) + len(USERS)
 
 
+@catches("indexctl/quotas.py", "if self.is_whole or row.full >= HIGH:", "if row.full >= 0:")
 def test_without_all_there_are_quotas_that_are_nearly_full_and_names_with_one_owner(office):
     ended, text = office.brief
     assert_ends(ended, 0, "18 names, 4 open cases")
@@ -106,6 +117,7 @@ def test_the_page_asks_for_nothing(office):
     assert not re.search(r"url\(|@import|fetch|XMLHttp|import\(", office.text)
 
 
+@catches("indexctl/page.py", "e = {key: text_of(value) for key", "e = {key: str(value) for key")
 def test_texts_are_escaped(office):
     found = " ".join(Reader(office.text).texts)
     assert found.count(MARKUP) == len(CASES) and office.text.count("<script") == 1
@@ -143,6 +155,7 @@ def test_texts_have_a_contrast_of_four_and_a_half(office, chromium, scheme):
     assert found["seen"] > 100 and found["found"] == []
 
 
+@catches("indexctl/page.py", '<th scope="row" role="rowheader">', '<td role="cell">')
 def test_a_telephone_gets_tables_with_their_heads(office, chromium):
     chromium.look(wide=390, is_telephone=True)
     chromium.go(f"file://{office.path}")
@@ -170,6 +183,7 @@ def test_no_word_is_broken(office, chromium, folder, look, most):
         assert chromium.value("document.documentElement.scrollWidth <= window.innerWidth")
 
 
+@catches("indexctl/page.py", '<article id="case-{e["name"]}"', '<article id="{e["name"]}"')
 def test_what_is_due_leads_to_its_case(office, chromium):
     chromium.look()
     chromium.go(f"file://{office.path}")

@@ -10,6 +10,7 @@ from indexctl.site.pages import list_page
 from indexctl.site.projects import Project
 from support.indexctl.browser import opened
 from support.indexctl.rows import held
+from support.planted import catches
 
 pytestmark = [pytest.mark.slow, pytest.mark.xdist_group("page")]
 OWNERS = 400
@@ -192,6 +193,8 @@ def test_a_screen_reader_gets_the_whole_list_unless_it_is_long(shared_folder, co
         assert_paper_has_all(browser, count >= page.MANY)
 
 
+@catches("indexctl/page.py", 'return f"{kind} many" if len(rows) >= MANY else kind', 'return f"{kind} many"',
+         also=["test_a_screen_reader_gets_the_whole_list_unless_it_is_long"])
 @pytest.mark.parametrize("count", [page.MANY - 1, page.MANY])
 def test_a_screen_reader_gets_all_rows_unless_they_are_many(shared_folder, count):
     with opened() as browser:

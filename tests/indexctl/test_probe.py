@@ -9,6 +9,7 @@ from typing import Any, Dict, Iterator, List, Tuple
 import pytest
 from support.indexctl.control import DAY, Control, filled, line, rows_in, rows_of, upload_line, user_lines
 from support.indexctl.tables import TABLES
+from support.planted import catches
 from support.serving import Index
 
 pytestmark = pytest.mark.xdist_group("probe")
@@ -72,6 +73,8 @@ def test_a_transfer_without_a_case_is_refused(probed: Probed, name: str, answer:
     assert probed.answers[name][0] >= 400 and probed.answers[name][1] == answer
 
 
+@catches("indexctl/probe.py", 'row = {"do": "transfer", "name": name, "quiet": False}',
+         'row = {"do": "transfer", "name": name, "quiet": True}')
 def test_no_probe_changes_the_tables(probed: Probed) -> None:
     assert probed.after == probed.before
 
@@ -91,12 +94,16 @@ def test_a_case_is_ready_if_it_lacks_nothing(probed: Probed) -> None:
     assert [row["name"] for row in rows_in(probed.office) if row["ready"]] == ["name0"]
 
 
+@catches("indexctl/probe.py", "return sorted(rows, key=soonest), is_office",
+         'return sorted(rows, key=lambda row: row["name"]), is_office')
 def test_the_soonest_case_comes_first(probed: Probed) -> None:
     rows = rows_in(probed.office)
     order = [(not row["ready"], row["latest"] if row["year"] == "not over" else row["earliest"]) for row in rows]
     assert len(rows) == len(HAS) and order == sorted(order)
 
 
+@catches("indexctl/probe.py", 'is_office = bool(having and desk.setting.token) and desk.caller() == "office"',
+         "is_office = True")
 def test_who_is_not_of_the_office_sees_no_year(probed: Probed) -> None:
     assert {row["year"] for row in rows_in(probed.owner)} == {"unknown"}
     assert "takes a token of the office" in probed.others.stdout

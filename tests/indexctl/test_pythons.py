@@ -15,6 +15,7 @@ from support.indexctl.control import assert_ends, digest, environment
 from support.needed import want_command
 from support.packages import make_wheel, wheel_files, wheel_name
 from support.places import SERVER, TOP
+from support.planted import catches
 from support.server.waits import wait_for
 from support.serving import Index, accepted
 
@@ -80,6 +81,9 @@ def test_each_python_says_the_version_and_prints_the_manual_page(python, one_fil
     assert len(ended.stdout.splitlines()) > 300
 
 
+@catches("indexctl/about.py", 'VERSION = "0.4.0"', 'VERSION = "0.2.0"',
+         ("indexctl/command_line.py", 'version=f"indexctl {VERSION}")', 'version="indexctl 0.1")'),
+         also=["test_each_python_says_the_version_and_prints_the_manual_page"])
 def test_the_version_is_that_of_the_newest_changes():
     """Of those that are released: the number is raised with the day of a release."""
     with open(f"{TOP}/CHANGELOG.md", encoding="utf-8") as changes:
@@ -91,6 +95,8 @@ def test_the_package_has_the_same_file():
         assert "indexctl/build.py made/bin/indexctl" in rules.read()
 
 
+@catches("indexctl/command_line.py", 'return f"{summary[0].upper()}{summary[1:]}."',
+         'return f"{summary[0].upper()}{summary[1:]}.".removeprefix(" ")', case="3.8")
 def test_each_python_reads_the_words_of_each_command(python, one_file):
     ended = run(python, "-c", READS, one_file)
     assert (ended.returncode, ended.stdout) == (0, f"{len(COMMANDS)}\n"), ended.stdout
@@ -119,6 +125,8 @@ def setting_of(front, home):
             "INDEX_CA": f"{os.path.dirname(front.certificate)}/ca.pem"}
 
 
+@catches("indexctl/uploads.py", "self.path, self.name, self.data = path, os.path.basename(path), data",
+         'self.path, self.name, self.data = path, os.path.basename(path).removesuffix("/"), data', case="3.8")
 def test_each_python_uploads_and_shows_over_tls(python, one_file, fronts, folder):
     name, by = f"of{''.join(map(str, version_of(python)))}{'d' * ('pyenv' not in python)}", folder
     setting = setting_of(fronts["with"], by)
@@ -138,10 +146,12 @@ def test_each_python_uploads_and_shows_over_tls(python, one_file, fronts, folder
     assert_ends(run(python, *words, **setting), 0, f"{name}\n")
 
 
+@catches("indexctl/transport.py", "ssl.create_default_context(cafile=setting.ca)", "ssl.create_default_context()")
 def test_each_python_trusts_an_authority_that_says_what_its_key_is_for(python, one_file, fronts, folder):
     assert_ends(run(python, one_file, "who", "x", **setting_of(fronts["with"], folder)), 0, "free")
 
 
+@catches("indexctl/transport.py", "NO_KEY_USAGE = 92", "NO_KEY_USAGE = 93", case="3.13")
 def test_from_3_13_on_an_authority_has_to_say_what_its_key_is_for(python, one_file, fronts, folder):
     ended = run(python, one_file, "who", "x", **setting_of(fronts["without"], folder))
     if version_of(python) >= (3, 13):

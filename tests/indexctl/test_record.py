@@ -9,6 +9,7 @@ import signal
 import pytest
 from support.indexctl.control import Control, assert_ends
 from support.indexctl.scripted import always, as_json, scripted
+from support.planted import catches
 
 ACCEPTED = always(*as_json({"answer": "accepted"}))
 CLAIM = "name", "claim", "another"
@@ -29,6 +30,9 @@ def limit_files():
     resource.setrlimit(resource.RLIMIT_FSIZE, (1000, 1000))
 
 
+@catches("indexctl/record.py", r'self.write(b" " * (len(line) - 1) + b"\n", end)', "pass",
+         also=["test_a_record_that_can_t_be_written_stops_the_change[full_device]"])
+@catches("indexctl/record.py", "except OSError as why:", "except ZeroDivisionError as why:")
 def test_a_record_whose_disk_is_full_stops_the_change(folder, record):
     before = os.path.getsize(record)
     with scripted(ACCEPTED) as server:
@@ -38,6 +42,8 @@ def test_a_record_whose_disk_is_full_stops_the_change(folder, record):
     assert os.path.getsize(record) == before
 
 
+@catches("indexctl/record.py", "self.file = os.open(path, os.O_RDWR | os.O_CREAT, 0o600)",
+         'self.file = os.open("/dev/null", os.O_RDWR)', case="no_folder")
 @pytest.mark.parametrize("path, said", [("/dev/full", "No space left"), ("FOLDER/none/record", "No such file")],
                          ids=["full_device", "no_folder"])
 def test_a_record_that_can_t_be_written_stops_the_change(folder, path, said):
@@ -47,6 +53,9 @@ def test_a_record_that_can_t_be_written_stops_the_change(folder, path, said):
         assert not server.asked
 
 
+@catches("indexctl/changes.py",
+         'if reply.status in (200, 201) and (answer == "accepted" or answer == "already" and reply.is_repeat):',
+         "if answer:", also=["test_a_change_is_recorded_if_it_may_be_of_this_run[done_before]"])
 def test_a_refusal_is_not_recorded(folder, record):
     before = os.path.getsize(record)
     with scripted(always(409, "application/json", b'{"answer":"refused","code":19,"name":"NameHeld"}')) as server:
@@ -54,6 +63,7 @@ def test_a_refusal_is_not_recorded(folder, record):
     assert os.path.getsize(record) == before
 
 
+@catches("indexctl/transport.py", "is_repeat = is_repeat or was_sent", "is_repeat = False", case="reply_lost")
 @pytest.mark.parametrize("replies, count", [([None, "already"], 1), (["already"], 0), (["accepted"], 1)],
                          ids=["reply_lost", "done_before", "accepted"])
 def test_a_change_is_recorded_if_it_may_be_of_this_run(folder, replies, count):

@@ -14,6 +14,7 @@ import pytest
 from support.indexctl.control import Control, Ended, assert_ends, digest, filled, line, rows_of, user_lines
 from support.indexctl.scripted import scripted, standing_of
 from support.indexctl.tables import TABLES
+from support.planted import catches
 from support.ports import free_port
 from support.serving import Index
 
@@ -88,12 +89,18 @@ def restored(program, shared_folder):
     return Restored(text, os.stat(record).st_mode & 0o777, tokens, ended, before, tables_of(f"{folder}/restored.db"))
 
 
+@catches("indexctl/record.py", "self.write(line, end)", r'self.write(b" " * (len(line) - 1) + b"\n", end)',
+         also=["test_a_replay_asks_for_what_its_caller_asked_for[dry_run]",
+               "test_a_replay_asks_for_what_its_caller_asked_for[office]",
+               "test_a_replay_asks_for_what_its_caller_asked_for[owner]"])
 def test_each_accepted_change_has_a_line(restored):
     lines = [json.loads(it) for it in restored.text.splitlines() if it.strip()]
     assert [it["do"] for it in lines] == ["add_user", "set_token", "claim", "set_quota", *3 * ["record_attempt"],
                                           "prohibit"]
 
 
+@catches("indexctl/changes.py", '"index": self.setting.url, **more, **row}',
+         '"index": self.setting.url, "x": {"by": token}, **more, **row}')
 def test_no_token_is_in_the_record_and_nobody_else_reads_it(restored, looked):
     looked(len(restored.tokens) == 2, restored.tokens)
     for secret in (*restored.tokens, '"office"}', '"ann"'):
@@ -101,6 +108,16 @@ def test_no_token_is_in_the_record_and_nobody_else_reads_it(restored, looked):
     looked(restored.mode == 0o600, oct(restored.mode))
 
 
+@catches("indexctl/replays.py",
+         'return "" if line.caller == caller else f"another caller asked for it ({line.caller})"', 'return ""',
+         ("indexctl/replays.py", "if line.index and line.index != url:", "if not line:"),
+         ("indexctl/replays.py", 'is_mine = is_office and line.row["do"] in OFFICE_ASKS', "is_mine = True"),
+         case="dry_run",
+         also=["test_a_replay_asks_for_what_its_caller_asked_for[office]",
+               "test_a_replay_asks_for_what_its_caller_asked_for[moved]",
+               "test_of_nginx_s_log_the_office_repeats_what_the_office_alone_may"])
+@catches("indexctl/commands/work.py", "lines, desk = lines_since(record, since, args.first), Desk(args)",
+         "lines, desk = lines_since(record, 0, args.first), Desk(args)", case="later")
 @pytest.mark.parametrize("run, said", [
     ("dry run", ["7 lines of yours, 1 left", "line 1: {"]),
     ("office", ["record_attempt", "counts from now on", "another caller asked for it", "7 lines of yours, 1 left"]),
@@ -112,6 +129,8 @@ def test_a_replay_asks_for_what_its_caller_asked_for(restored, run, said):
     assert_ends(restored.ended[run], 0, *said)
 
 
+@catches("indexctl/replays.py", 'if done and row["do"] == "record_attempt":',
+         'if done and desk.change("again", row) and row["do"] == "record_attempt":')
 def test_the_tables_are_as_before_the_restore(restored):
     differ = {it: (restored.after[it], restored.before[it]) for it in TABLES
               if restored.after[it] != restored.before[it]}
@@ -183,6 +202,11 @@ def test_a_replay_that_broke_off_goes_on_at_a_line(replays, folder):
     assert "name0" not in ended.stdout
 
 
+@catches("indexctl/replays.py", 'if found is None or not isinstance(found.get("at"), str):', "if found == 0:",
+         case="no_json")
+@catches("indexctl/replays.py",
+         'if not isinstance(row.get("do"), str) or row["do"] in FILE_ASKS and not isinstance(row.get("file"), str):',
+         "if row is None:", case="no_request", also=["test_a_line_that_can_t_be_read_ends_a_replay[no_file]"])
 @pytest.mark.parametrize("text, said", [
     ("no JSON", "Line 1 is not a line of a record"), ("[1]", "Line 1 is not a line of a record"),
     ('{"at": 5}', "Line 1 is not a line of a record"),
@@ -202,6 +226,8 @@ def test_the_deletions_of_a_user_who_left_are_left_to_a_person(replays, folder):
                 "`indexctl user leave ann`", "0 lines of yours, 1 left")
 
 
+@catches("indexctl/replays.py", 'return {"do": "upload", "file": str(found.get("file", ""))}', "return {}",
+         also=["indexctl/test_unit_replay_lines.py::test_an_upload_by_twine_in_an_older_log_has_no_file"])
 def test_a_replay_goes_past_uploads_by_twine(replays, folder):
     at = "2026-01-01T00:00:10+00:00"
     log = written(folder, {"at": at, "status": 200, "method": "POST", "path": "/legacy/", "body": ""},
@@ -216,6 +242,12 @@ def attempts_of_the_office(folder):
                               "means": means, "sent": True} for at, means in enumerate(("profile", "author"))))
 
 
+@catches("indexctl/replays.py", "if case and is_counted(case, self.up_to(line, name, case)):",
+         "if case and not self.up_to(line, name, case):",
+         also=["indexctl/test_unit_replays.py::test_an_attempt_that_the_case_counts_already_is_left",
+               "indexctl/test_unit_replays.py::test_an_attempt_that_is_left_says_why_and_what_to_do"])
+@catches("indexctl/replays.py", "and it.number >= first and it.again not in known]", "and it.number >= first]",
+         also=["indexctl/test_unit_replays.py::test_what_a_replay_added_to_the_record_is_not_asked_for_again"])
 def test_attempts_are_counted_once_however_often_a_record_is_replayed(replays, folder):
     record = attempts_of_the_office(folder)
     for said in (["2 lines of yours, 0 left"], ["seems to count this one", "0 lines of yours, 2 left"]):
@@ -227,6 +259,9 @@ def test_attempts_are_counted_once_however_often_a_record_is_replayed(replays, f
     assert [it["again"] for it in lines[2:]] == [it["at"] for it in lines[:2]]
 
 
+@catches("indexctl/commands/work.py", "with told_if_interrupted(lambda: go_on(waiting)):",
+         'with told_if_interrupted(lambda: ""):',
+         also=["indexctl/test_unit_replays.py::test_a_replay_that_is_interrupted_says_at_which_line"])
 @pytest.mark.parametrize("end", [signal.SIGINT, signal.SIGHUP], ids=["ctrl_c", "closed_terminal"])
 def test_a_replay_that_is_stopped_names_the_line_to_go_on_at(folder, end):
     is_sent = threading.Event()

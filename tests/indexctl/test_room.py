@@ -9,6 +9,7 @@ import pytest
 from support.indexctl.control import Control, assert_ends, environment, filled, line, upload_line, user_lines
 from support.indexctl.terminal import lines_of, on_terminal
 from support.places import BIN
+from support.planted import catches
 from support.serving import Index
 
 pytestmark = pytest.mark.xdist_group("room")
@@ -45,6 +46,8 @@ def test_old_nightly_builds_go_and_their_room_counts_again(by):
     assert_ends(by.run(*ROOM, "--yes", caller="ann"), 0, "There is nothing to delete.")
 
 
+@catches("indexctl/commands/releases.py", "confirm(args, tell_room(args, rows))", "pass",
+         also=["indexctl/test_unit_room.py::test_the_releases_are_shown_before_they_go"])
 def test_a_script_that_does_not_say_yes_deletes_nothing_and_is_shown_what_would_go(by):
     ended = by.run(*ROOM, caller="ann")
     assert_ends(ended, 2, "nightly 1.1.dev1: nightly-1.1.dev1.tar.gz, 1000 B", "3 releases with 3 files, 2.9 KiB, will "
@@ -52,12 +55,17 @@ def test_a_script_that_does_not_say_yes_deletes_nothing_and_is_shown_what_would_
     assert len(releases(by)) == 6
 
 
+@catches("indexctl/commands/releases.py", "if not args.yes:", "if False:",
+         also=["indexctl/test_unit_room.py::test_the_releases_are_shown_before_they_go"])
 def test_a_person_is_shown_the_releases_and_types_yes(by):
     status, seen = on_terminal(by, *ROOM, types="yes\n", INDEX_TOKEN="ann")
     assert status == 0 and "nightly 1.1.dev3: nightly-1.1.dev3.tar.gz, 1000 B" in lines_of(seen), seen
     assert len(releases(by)) == 3
 
 
+@catches("indexctl/commands/releases.py", "for file in (it for row in rows for it in row.files):",
+         "for file in [row.files[0] for row in rows[:0]]:",
+         also=["indexctl/test_unit_room.py::test_a_refusal_leaves_the_others_to_go"])
 def test_another_s_releases_stay(by):
     assert_ends(by.run("release", "delete", "nightly", "1.0", "--yes", caller="office"), 1, "NotOwner", "ann")
     assert len(releases(by)) == 6
@@ -76,6 +84,11 @@ def front(program, open_folder, certificate, folder):
         yield front
 
 
+@catches("indexctl/commands/contents.py", "found = find_contents(index, name, is_fresh=True)",
+         "found = find_contents(index, name)",
+         ("indexctl/commands/contents.py", "find_contents(desk.index, found.name, is_fresh=True) or [])",
+          "find_contents(desk.index, found.name) or [])"), case="delete",
+         also=["test_what_just_went_is_on_no_list[ban]"])
 @pytest.mark.parametrize("words, caller", [(("delete",), "ann"), (("ban", "--yes"), "office")], ids=["delete", "ban"])
 def test_what_just_went_is_on_no_list(front, words, caller):
     """nginx has the page of a moment before."""
@@ -99,6 +112,9 @@ def uncached(front, ended):
     return len(found)
 
 
+@catches("indexctl/commands/files.py", "tell_served(desk, banned)", "pass", case="ban",
+         also=["indexctl/test_unit_commands.py::test_of_what_was_banned_it_is_told_whether_it_still_goes_out"])
+@catches("indexctl/commands/names.py", "tell_served(desk, gone)", "pass", case="prohibit")
 @pytest.mark.slow
 @pytest.mark.parametrize("words", [("file", "ban", *BOTH), ("name", "prohibit", "frob")], ids=["ban", "prohibit"])
 def test_of_what_nginx_still_serves_it_is_told_until_its_line_is_run(front, words):

@@ -16,6 +16,7 @@ from indexctl.commands import COMMANDS
 from support.indexctl.control import Control, assert_ends, environment
 from support.needed import want_command
 from support.places import SERVER, TOP
+from support.planted import catches
 
 pytestmark = pytest.mark.xdist_group("shell")
 GROUPS = ("token", "profile", "user", "name", "owner", "file", "release", "quota", "quotas", "names", "who", "owned-by",
@@ -46,10 +47,23 @@ def commands_of(ended):
                                                      flags=re.M)[0], re.M)
 
 
+@catches("indexctl/command_line.py", 'parts = [("environment", ENVIRONMENT), ("files", FILES), ("status", STATUSES)]',
+         'parts = [("environment", FILES)]')
 def test_help_says_where_settings_come_from_and_what_statuses_mean(help_of):
     assert_ends(help_of(), 0, "INDEX_TOKEN_FILE", "https_proxy", "~/.netrc", "130", "141", "(office)")
 
 
+@catches("indexctl/main.py", "args = parsed(sys.argv[1:])",
+         'args = parsed([it for it in sys.argv[1:] if it != "--help"] if len(sys.argv) > 2 else sys.argv[1:])',
+         case="token",
+         also=["test_each_group_has_help[user]", "test_each_group_has_help[name]", "test_each_group_has_help[owner]",
+               "test_each_group_has_help[file]", "test_each_group_has_help[release]", "test_each_group_has_help[quota]",
+               "test_each_group_has_help[quotas]", "test_each_group_has_help[names]",
+               "test_each_group_has_help[profile]", "test_each_group_has_help[who]",
+               "test_each_group_has_help[owned-by]", "test_each_group_has_help[case]",
+               "test_each_group_has_help[upload]", "test_each_group_has_help[page]", "test_each_group_has_help[replay]",
+               "test_each_group_has_help[completion]", "test_each_group_has_help[man]", "test_a_verb_has_help",
+               "test_help_names_all_commands"])
 @pytest.mark.parametrize("group", GROUPS)
 def test_each_group_has_help(help_of, group):
     assert_ends(help_of(group), 0, f"usage: indexctl {group}")
@@ -79,15 +93,19 @@ def manual(plain):
     return ended.stdout
 
 
+@catches("indexctl/shell.py", "lines += manual_of(it, made[it.path])",
+         '''lines += manual_of(it, made[it.path]) if it.path != "user add" else ["'x"]''')
 def test_the_manual_page_has_each_command(paths, manual):
     assert not [path for path in paths if f"indexctl {path}".replace("-", "\\-") not in manual]
     assert "\\fBindexctl info\\fR is the same." in manual
 
 
+@catches("indexctl/shell.py", 'if "help" in given.settings:', 'if "help" in given.settings and given.is_option:')
 def test_the_manual_page_says_what_a_word_may_be(manual):
     assert "profile, author or pages." in manual
 
 
+@catches("indexctl/shell.py", 'lines += [f".SH {title}"]', 'lines += [f".NOTHING {title}"]')
 def test_groff_reads_the_manual_page(manual):
     want_command("groff", "groff")
     page = subprocess.run(["groff", "-man", "-Tutf8", "-ww"], input=manual, stdout=subprocess.PIPE,
@@ -96,6 +114,8 @@ def test_groff_reads_the_manual_page(manual):
     assert "EXIT STATUS" in re.sub(r"\x1b\[\d*m|.\x08", "", page.stdout)
 
 
+@catches("indexctl/main.py", "args = parsed(sys.argv[1:])",
+         'args = parsed(["man"] if "nmaes" in sys.argv else sys.argv[1:])')
 def test_a_command_that_is_none_is_refused(plain):
     assert_ends(plain.run("nmaes"), 2, "invalid choice")
 
@@ -126,6 +146,8 @@ def path_of(words):
     return tuple(words[:1 if is_alone else 2])
 
 
+@catches("indexctl/standings.py", "with Progress(what, len(items)) as progress:",
+         "with (Progress(what, len(items)) as progress, suppress(ZeroDivisionError)):", case="indexctl/standings.py")
 @pytest.mark.parametrize("path", MODULES)
 def test_a_module_has_the_syntax_of_python_3_8_and_less_than_400_lines(path):
     with open(f"{TOP}/{path}", encoding="utf-8") as kept:

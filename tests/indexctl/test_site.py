@@ -15,6 +15,7 @@ from support.indexctl.sample import NAMES
 from support.indexctl.site import COUNT, FJORD, PEOPLE, read, texts_of
 from support.needed import want_module
 from support.places import NGINX, SERVER
+from support.planted import catches
 from support.serving import Index
 
 pytestmark = pytest.mark.xdist_group("site")
@@ -27,6 +28,8 @@ def shown(page: Page) -> Any:
                       "function (it) { return it.textContent; })")
 
 
+@catches("indexctl/site/about.py", "except Exception:", "except StopIteration:",
+         also=["indexctl/test_unit_about.py::test_a_wheel_that_can_t_be_read_says_nothing"])
 def test_a_page_is_written_for_each_project_without_a_token(site):
     assert_ends(site.ended, 0, f"{COUNT} projects, {COUNT + len(OWN)} pages changed")
     names = [re.sub(r"[-_.]+", "-", it).lower() for it in (*NAMES, "fjord-queue", "early")]
@@ -34,6 +37,8 @@ def test_a_page_is_written_for_each_project_without_a_token(site):
                                          *(f"projects/{it}.html" for it in names)])
 
 
+@catches("indexctl/site/folder.py", "if before.read() == text:", 'if before.read() == text + "x":',
+         also=["indexctl/test_unit_site_folder.py::test_a_page_is_written_if_it_changed"])
 def test_a_second_run_writes_nothing(site):
     before = os.stat(f"{site.folder}/index.html").st_mtime_ns
     ended = site.by.run("site", site.folder, "--url", PEOPLE, "--log", site.log)
@@ -41,6 +46,9 @@ def test_a_second_run_writes_nothing(site):
     assert os.stat(f"{site.folder}/index.html").st_mtime_ns == before
 
 
+@catches("indexctl/site/folder.py", "if os.listdir(folder) and not os.path.exists(path):",
+         "if not os.path.isdir(folder):",
+         also=["indexctl/test_unit_site_folder.py::test_a_folder_of_something_else_is_refused"])
 def test_a_folder_of_something_else_is_left_alone(site, folder):
     put(f"{folder}/home/projects/mine.html", "mine")
     assert_ends(site.by.run("site", f"{folder}/home"), 2, "has files of something else")
@@ -48,11 +56,16 @@ def test_a_folder_of_something_else_is_left_alone(site, folder):
     assert_ends(site.by.run("site", f"{folder}/none"), 2, "is not a folder")
 
 
+@catches("indexctl/commands/site.py", 'parts_of_url(args.url, "--url")', "str(args.url)")
 @pytest.mark.parametrize("url", ["packages.example", "http://packages.example", "https://packages.example/simple"])
 def test_an_address_that_people_can_t_use_is_refused(site, url):
     assert_ends(site.by.run("site", site.folder, "--url", url), 2, "--url")
 
 
+@catches("indexctl/site/folder.py", "return sum(changed) + remove_others(inner, own)", "return sum(changed)")
+@catches("indexctl/site/folder.py", "put_whole(path, [text], is_synced=False)", 'open(path, "a").write(text)',
+         also=["test_a_run_that_is_killed_leaves_whole_pages",
+               "indexctl/test_unit_site_folder.py::test_a_page_is_written_if_it_changed"])
 def test_a_page_that_is_gone_goes_and_one_that_changed_is_written(site, folder):
     made = f"{folder}/own"
     os.mkdir(made)
@@ -214,6 +227,8 @@ def roles(page: Page):
     return [(role, name or said) if role == "status" else (role, name) for role, name in found]
 
 
+@catches("indexctl/site/pages.py", '''return (f'<section aria-labelledby="release-{version}"><h3''',
+         "return (f'<section><h3")
 def test_a_screen_reader_gets_headings_landmarks_and_a_named_search(site, chromium):
     chromium.look()
     chromium.go(f"{site.front.url}/browse/")

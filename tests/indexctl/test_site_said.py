@@ -11,6 +11,7 @@ from support.indexctl.projects import REASON
 from support.indexctl.sample import MARKUP
 from support.indexctl.site import COUNT, FJORD, PEOPLE, read
 from support.needed import want_module
+from support.planted import catches
 
 pytestmark = pytest.mark.xdist_group("site_said")
 
@@ -60,6 +61,17 @@ def test_a_description_is_rendered_and_does_nothing(site, chromium):
     assert "\\u202ex" in chromium.text() and "built" in chromium.text()
 
 
+@catches("indexctl/page.py", "return html.escape(printable(value))", "return printable(value)",
+         also=["indexctl/test_unit_site.py::test_each_text_of_a_project_is_escaped"])
+@catches("indexctl/page.py", "return html.escape(printable(value))", "return html.escape(str(value))",
+         also=["indexctl/test_unit_site.py::test_each_text_of_a_project_is_escaped",
+               "indexctl/test_unit_page.py::test_no_text_turns_the_line"])
+@catches("indexctl/site/about.py",
+         'return parts.scheme in ("http", "https") and bool(parts.hostname) and text.isprintable() and " " not '
+         "in text", "return bool(parts.scheme)",
+         also=["test_a_page_says_what_the_newest_wheel_says",
+               "indexctl/test_unit_about.py::test_a_wheel_says_summary_links_licence_and_classifiers",
+               "indexctl/test_unit_about.py::test_what_was_kept_and_is_not_of_its_kind_is_read_again"])
 def test_texts_of_strangers_are_texts(site, chromium):
     chromium.look()
     chromium.go(f"{site.front.url}{FJORD}")
@@ -86,6 +98,8 @@ def test_a_script_that_gets_into_a_page_does_not_run(site, chromium):
         put(path, before, 0o644)
 
 
+@catches("indexctl/site/projects.py", "if files[0].yanked is None and is_release(release)]", "if is_release(release)]",
+         also=["indexctl/test_unit_site.py::test_the_newest_release_is_the_one_that_an_installer_takes"])
 def test_releases_come_newest_first_with_files_digests_and_yanks(site, chromium):
     chromium.look()
     chromium.go(f"{site.front.url}{FJORD}")
@@ -107,6 +121,7 @@ def test_a_page_says_what_the_newest_wheel_says(site, chromium):
     assert said.index("Sends & receives") < said.index("newest release")
 
 
+@catches("indexctl/commands/site.py", "url or desk.setting.url", "desk.setting.url")
 def test_a_page_says_how_to_install(site, chromium):
     chromium.go(f"{site.front.url}{FJORD}")
     said = chromium.text()
@@ -134,6 +149,7 @@ def test_programs_get_all_projects_as_json(site):
     assert rows["ember-cache"]["needed_by"] == ["fjord-queue"] and rows["glasshouse"]["case"] is True
 
 
+@catches("indexctl/site/pages.py", 'yield "open case", case_text(found.case)', 'yield "case", "open"')
 def test_a_page_has_owners_and_an_open_case(site, chromium):
     chromium.go(f"{site.front.url}/browse/projects/glasshouse.html")
     said = chromium.text()
@@ -142,6 +158,8 @@ def test_a_page_has_owners_and_an_open_case(site, chromium):
     assert "open case" not in chromium.text()
 
 
+@catches("indexctl/site/pages.py", "link(file_path(name, file.file), file.file)",
+         'link(f"/file/{name}/{file.file}", file.file)')
 def test_each_link_to_a_file_gives_its_bytes(site, chromium):
     chromium.go(f"{site.front.url}{FJORD}")
     paths = chromium.value("Array.from(document.querySelectorAll('.files a'), function (it) { return it.pathname; })")

@@ -11,6 +11,7 @@ import pytest
 from support.indexctl.control import Control, digest, filled, line, rows_of, user_lines
 from support.indexctl.tables import TABLES
 from support.places import INDEXCTL
+from support.planted import catches
 from support.server.stops import ended_before, is_reached
 from support.serving import Index
 
@@ -72,6 +73,9 @@ def walked(runs, path, number, looked):
     looked(step > FEWEST_STEPS, step)
 
 
+@catches("indexctl/commands/users.py",
+         'if desk.change(f"user {user}: lock", {"do": "set_token", "user": user, "token_sha256": sha256(token)}):',
+         "if token:", case="9")
 @pytest.mark.parametrize("number", SIGNALS)
 def test_a_user_who_half_left_has_left_after_a_second_run(program, folder, looked, number):
     path = filled(program, f"{folder}/index.db", [
@@ -84,6 +88,9 @@ def test_a_user_who_half_left_has_left_after_a_second_run(program, folder, looke
             looked("Run it again, to the end" in first.stdout, step, first.stdout)
 
 
+@catches("indexctl/replays.py", "return case.attempts >= len(attempts) and", "return case.attempts < 0 and", case="9")
+@catches("tests/support/server/stops.py", 'if event in CALLS or event == "open" and words[2]',
+         'if event == "none" and words[2]', case="9")
 @pytest.mark.parametrize("number", SIGNALS)
 def test_a_replay_that_was_stopped_is_done_by_a_second_one_and_counts_nothing_twice(program, folder, looked, number):
     now, caller = int(time.time()), digest("office")[:8]

@@ -11,6 +11,7 @@ from support.clients.world import PAGE
 from support.indexctl.control import DAY, Control, assert_ends, filled, line, upload_line, user_lines
 from support.packages import make_wheel, wheel_files, wheel_name
 from support.places import BIN
+from support.planted import catches
 from support.server.waits import wait_for
 from support.serving import Index, Running
 
@@ -84,6 +85,8 @@ def test_a_leaked_secret_is_away(walk):
     assert wait_for(lambda: [walk.status(it) for it in FILES] == [404, 404], seconds=60)
 
 
+@catches("indexctl/commands/users.py", 'desk.change(f"case of {name}: close", {"do": "close_case", "name": name})',
+         "pass")
 @pytest.mark.slow
 def test_who_leaves_owns_nothing_and_asks_for_nothing(walk):
     walk.does("user leave walter --to bob --yes")
@@ -118,6 +121,8 @@ def test_a_wrong_upload_is_taken_away_and_uploaded_anew(walk, folder):
     assert wait_for(lambda: walk.status(FILES[0]) == 404, seconds=60)
 
 
+@catches("indexctl/page.py", "groups = alike(found.owners)", "groups: List[List[str]] = []",
+         also=["indexctl/test_unit_page.py::test_names_that_look_alike_are_shown_with_their_owners"])
 def test_a_typosquat_is_seen_and_taken_away(walk, folder):
     walk.does(f"page {folder}")
     with open(f"{folder}/index.html", encoding="utf-8") as page:
@@ -128,6 +133,9 @@ def test_a_typosquat_is_seen_and_taken_away(walk, folder):
     assert wait_for(lambda: walk.status("fr0b-1.0.tar.gz") == 404, seconds=60)
 
 
+@catches("indexctl/refusals.py", 'if answer == "NoProject" and name and row.get("do") != "upload":',
+         'if answer == "NoProject" and not row:',
+         also=["indexctl/test_unit_refusals.py::test_who_mistypes_a_name_is_not_led_to_claim_it"])
 @pytest.mark.parametrize("words", ["file delete forb-1.0.tar.gz", "release yank forb 1.0 --reason x", "quota show forb",
                                    "owner add bob forb", "name relinquish forb --yes", "case answer forb"])
 def test_a_slip_in_a_name_leads_nobody_to_claim_it(walk, words):
@@ -145,6 +153,7 @@ def test_a_full_quota_says_so_and_is_raised(walk, folder):
     walk.does(f"upload {wheel}", caller="ann")
 
 
+@catches("indexctl/commands/cases.py", "sent=not args.not_sent", "sent=args.not_sent")
 @pytest.mark.slow
 def test_an_abandoned_name_passes_after_43_days(program, folder):
     """From the candidate's first command to the transfer, and each of them is accepted."""
@@ -162,6 +171,8 @@ def test_an_abandoned_name_passes_after_43_days(program, folder):
     assert count <= MOST["an abandoned name"]
 
 
+@catches("indexctl/ends.py", "REFUSED, WRONG, UNREACHED, INTERRUPTED, PIPE_CLOSED = 1, 2, 3, 130, 141",
+         "REFUSED, WRONG, UNREACHED, INTERRUPTED, PIPE_CLOSED = 1, 2, 1, 130, 141")
 @pytest.mark.slow
 def test_what_is_away_and_a_wrong_token_end_with_their_status(walk):
     assert_ends(walk.by.run("name", "claim", "x", caller="nobody"), 1, "BadToken")

@@ -8,6 +8,7 @@ import pytest
 from indexctl.terminal import printable
 from support.indexctl.control import DAY, Control, assert_ends, filled, line, upload_line, user_lines
 from support.indexctl.terminal import COLUMNS, lines_of, on_terminal
+from support.planted import catches
 from support.serving import Index
 
 pytestmark = pytest.mark.xdist_group("terminal")
@@ -46,12 +47,17 @@ def by(program, shared_folder):
         yield Control(shared_folder, f"http://127.0.0.1:{index.port}")
 
 
+@catches("indexctl/terminal.py", "if sys.stdout.isatty() and sum(widths) + 2 * (len(widths) - 1) > most:",
+         "if not most:")
 def test_a_table_that_is_too_wide_is_printed_in_blocks(by):
     status, seen = on_terminal(by, "names")
     lines = lines_of(seen)
     assert status == 0 and max(map(len, lines)) <= COLUMNS and f"{LONG}-11" in seen, lines
 
 
+@catches("indexctl/terminal.py",
+         "lines = textwrap.wrap(text, max(20, most - wide - 1), break_long_words=False, break_on_hyphens=False)",
+         "lines = [text]")
 def test_a_long_text_is_wrapped(by):
     status, seen = on_terminal(by, "case", "show", "mine")
     # but for a word that is too long for a line
@@ -66,6 +72,8 @@ def words_of(rows, keys):
     return {printable(word) for it in texts for word in it.split()}
 
 
+@catches("indexctl/terminal.py", "break_long_words=False, break_on_hyphens=False)", "break_on_hyphens=False)",
+         also=["indexctl/test_unit_terminal.py::test_a_name_is_not_torn_by_its_hyphen_or_for_its_length"])
 @pytest.mark.parametrize("columns", [60, 120])
 @pytest.mark.parametrize("words", LISTINGS)
 def test_a_listing_breaks_no_name_and_cuts_nothing(by, columns, words):
@@ -79,6 +87,9 @@ def test_a_listing_breaks_no_name_and_cuts_nothing(by, columns, words):
     assert not [it for it in lines if len(it) > columns and len(it.split()) > 2]
 
 
+@catches("indexctl/command_line.py",
+         "return max(LEAST_COLUMNS, min(MOST_COLUMNS, shutil.get_terminal_size().columns - 2))", "return MOST_COLUMNS",
+         also=["indexctl/test_unit_shell.py::test_help_says_what_stands_where"])
 @pytest.mark.parametrize("words", ["", "upload", "profile", "release yank"])
 @pytest.mark.parametrize("columns", [60, 120])
 def test_help_fits_the_terminal(by, columns, words):
@@ -87,17 +98,26 @@ def test_help_fits_the_terminal(by, columns, words):
     assert status == 0 and columns - 30 < widest <= columns, seen
 
 
+@catches("indexctl/terminal.py", "break_long_words=False, break_on_hyphens=False)",
+         'break_long_words=False, break_on_hyphens=False) or [""]')
 def test_what_is_not_so_has_no_line(by):
     """`yanked` with nothing behind it could be read as a yank."""
     _, seen = on_terminal(by, "files", "wide-frob")
     assert [it.split()[0] for it in lines_of(seen) if it].count("yanked") == 1, seen
 
 
+@catches("indexctl/terminal.py",
+         r'return text if text.isprintable() else "".join(it if it.isprintable() else f"\\u{ord(it):04x}" for '
+         "it in text)", "return text")
 def test_a_text_does_not_turn_the_line(by):
     _, seen = on_terminal(by, "case", "show", "mine")
     assert "\\u202e" in seen and "\u202e" not in seen, seen
 
 
+@catches("indexctl/terminal.py",
+         'is_plain = not stream.isatty() or os.environ.get("NO_COLOR") or os.environ.get("TERM") == "dumb"',
+         'is_plain = stream.isatty() and not os.environ.get("NO_COLOR")',
+         also=["test_a_terminal_without_colours_gets_none[NO_COLOR]", "test_no_terminal_has_no_colours"])
 def test_a_terminal_has_colours(by):
     status, seen = on_terminal(by, "quotas")
     assert status == 0 and "\x1b[1m" in seen, seen
@@ -109,6 +129,8 @@ def test_a_terminal_without_colours_gets_none(by, setting):
     assert status == 0 and not re.search(r"\x1b\[[0-9;]*m", seen), seen
 
 
+@catches("indexctl/terminal.py", "if self.is_watched:", "if not self.is_watched:",
+         also=["test_no_terminal_has_no_progress"])
 def test_a_terminal_shows_how_far_a_walk_has_come(by):
     held = len(by.rows("names"))
     _, seen = on_terminal(by, "quotas")

@@ -11,8 +11,13 @@ import pytest
 from indexctl.site import about
 from indexctl.site.about import About, Description
 from support.indexctl.projects import wheel_of
+from support.planted import catches
 
 
+@catches("indexctl/site/about.py", "if is_address(url) and not (", "if not (")
+@catches("indexctl/site/about.py", "return (found[1], found[2]) if found and is_name(found[1]) else None",
+         "return (found[1], found[2]) if found else (text, '')",
+         also=["test_what_was_kept_and_is_not_of_its_kind_is_read_again"])
 @pytest.mark.parametrize("headers, said", [
     ("Summary: one\n  two\nLicense: A\n  B\n", About("one", "", "A")),
     ("Summary: UNKNOWN\nHome-page: UNKNOWN\nLicense: UNKNOWN\n", About()),
@@ -44,6 +49,7 @@ def test_a_wheel_says_summary_links_licence_and_classifiers(headers, said):
     assert about.read_about("frob.whl", wheel_of("frob", "1.0", headers)) == (said, about.NO_TEXT)
 
 
+@catches("indexctl/site/about.py", r'INDENTED.sub("\n", str(headers["Description"] or ""))', '""')
 @pytest.mark.parametrize("headers, description", [
     ("Description-Content-Type: text/markdown; charset=UTF-8; variant=GFM\n\n# a\n",
      Description("# a\n", "text/markdown")),
@@ -70,6 +76,7 @@ def source_of(*files):
 PKG_INFO = "frob-1.0/PKG-INFO", b"Summary: x\n\ntext"
 
 
+@catches("indexctl/site/about.py", "(headers.get_all(name) or [])[:MOST_LINES]", "headers.get_all(name) or []")
 def test_of_many_classifiers_links_and_needs_the_first_are_taken():
     headers = "".join(f"Classifier: a{at}\nProject-URL: a{at}, https://a.example\nRequires-Dist: a{at}\n"
                       for at in range(5_000))
@@ -96,6 +103,7 @@ SPOILT_LZMA = bytearray(archive_of(METADATA, b"Summary: x\n" * 50, zipfile.ZIP_L
 SPOILT_LZMA[SPOILT_LZMA.index(METADATA.encode()) + len(METADATA) + 9] ^= 0xff
 
 
+@catches("indexctl/site/about.py", "inside.read(MOST_METADATA)", "inside.read()")
 def test_of_a_long_metadata_the_beginning_is_read():
     first = b"Summary: x\nA: ".ljust((1 << 20) - 1, b"b") + b"\n"
     found = about.read_about("frob.whl", archive_of(METADATA, first + b"Home-page: https://a.example\n"))
@@ -106,17 +114,23 @@ KEPT = {"summary": "s", "home": "https://a", "licence": "l", "links": [["Source"
         "classifiers": ["c"], "needs": ["frob>=1"], "described": "x"}
 
 
+@catches("indexctl/site/about.py", "set(found) != {it.name for it in dataclasses.fields(About)}", "not found")
 @pytest.mark.parametrize("key", KEPT)
 def test_what_was_kept_by_an_older_version_is_read_again(key):
     assert about.about_from({it: KEPT[it] for it in KEPT if it != key}) is None
 
 
+@catches("indexctl/site/about.py", "return About(**{**found, **lists})", "return None",
+         also=["indexctl/test_unit_site_folder.py::test_what_wheels_said_is_kept_between_runs"])
 def test_what_was_kept_is_taken():
     found = about.about_from(dict(KEPT))
     assert found == About("s", "https://a", "l", (("Source", "https://b"),), ("c",), ("frob>=1",), "x")
     assert about.about_from(json.loads(json.dumps(dataclasses.asdict(found)))) == found
 
 
+@catches("indexctl/archives.py", "STEADY = zipfile.ZIP_STORED, zipfile.ZIP_DEFLATED",
+         "STEADY = zipfile.ZIP_STORED, zipfile.ZIP_DEFLATED, zipfile.ZIP_BZIP2, zipfile.ZIP_LZMA",
+         also=["indexctl/test_site_memory.py::test_no_wheel_takes_the_memory_of_the_machine_and_the_run_goes_on"])
 @pytest.mark.parametrize("way", [zipfile.ZIP_BZIP2, zipfile.ZIP_LZMA])
 def test_a_small_wheel_takes_no_gigabytes(way):
     """By these ways zipfile takes out all at once, of which a small wheel can hold any amount."""
@@ -126,6 +140,7 @@ def test_a_small_wheel_takes_no_gigabytes(way):
     assert about.read_about("frob.whl", made.getvalue()) == (about.NOTHING, about.NO_TEXT)
 
 
+@catches("indexctl/site/about.py", "it is None or it.offset_data + it.size > MOST_UNPACKED", "it is None")
 @pytest.mark.parametrize("body, said", [
     (source_of(("frob-1.0/LICENSE", b"a"), PKG_INFO), About("x")),
     (source_of(("frob-1.0/frob.egg-info/PKG-INFO", b"Summary: y\n"), PKG_INFO), About("x")),
@@ -141,6 +156,7 @@ def test_a_source_archive_says_the_same_if_it_says_it_soon(body, said, monkeypat
     assert found == (said, Description("text", "text/x-rst") if said.summary else about.NO_TEXT)
 
 
+@catches("indexctl/site/about.py", "except Exception:", "except (zipfile.BadZipFile, zipfile.zlib.error, OSError):")
 @pytest.mark.parametrize("body", [b"", b"no archive", archive_of("METADATA", b"Summary: x\n"),
                                   archive_of("a/frob.dist-info/METADATA", b"Summary: x\n"),
                                   archive_of("frob.dist-info/METADATA.txt", b"Summary: x\n"), bytes(ENCRYPTED),
@@ -151,6 +167,7 @@ def test_a_wheel_that_can_t_be_read_says_nothing(body):
     assert about.read_about("frob.whl", body) == (about.NOTHING, about.NO_TEXT)
 
 
+@catches("indexctl/site/about.py", "*(url for _, url in links)])):", "])):")
 @pytest.mark.parametrize("changed", [
     None, [], {"summary": 1}, {"home": "javascript:alert(1)"}, {"links": [["Source", "javascript:alert(1)"]]},
     {"links": [["https://b"]]}, {"links": [[1, "https://b"]]}, {"links": {}}, {"classifiers": "c"},

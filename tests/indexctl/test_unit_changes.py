@@ -10,6 +10,7 @@ from indexctl.ends import REFUSED, UNREACHED, WRONG, Stop
 from indexctl.names import sha256
 from indexctl.transport import Request, replace
 from support.indexctl.rows import SETTING, FakeIndex, args, reply
+from support.planted import catches
 
 
 def answer(status=200, answer="accepted", **more):
@@ -45,6 +46,7 @@ def test_a_request_goes_out_with_the_token_and_the_name(desk):
     assert (json.loads(body), sent.length) == ({"do": "claim", "name": "A_b"}, len(body))
 
 
+@catches("indexctl/changes.py", "if name and name.isascii() and name.isprintable() else ()", "if name else ()")
 @pytest.mark.parametrize("row", [{"do": "add_user", "user": "bob"}, *({"do": "claim", "name": it} for it in (
     "\u4e2d", "\ud800", "a\r\nb"))])
 def test_a_request_without_a_name_has_no_header_for_it(desk, row):
@@ -121,6 +123,9 @@ def test_what_can_t_be_accepted_may_be_sent_again(desk, do):
     assert not one.index.asked[0].is_once
 
 
+@catches("indexctl/changes.py", 'if is_kept and reply.is_repeat and found.get("name") in ("BadToken", "NotOwner"):',
+         "if not answer:",
+         also=["indexctl/test_replies.py::test_who_takes_another_token_has_it_though_the_reply_was_lost"])
 @pytest.mark.parametrize("is_repeat", [True, False])
 @pytest.mark.parametrize("status, name", [(401, "BadToken"), (403, "NotOwner")])
 def test_a_right_that_a_first_try_may_have_ended_is_told_as_that(desk, tmp_path, status, name, is_repeat):

@@ -13,6 +13,7 @@ from indexctl.standings import Standing
 from indexctl.names import sha256
 from indexctl.uploads import MOST_TEXT
 from support.indexctl.rows import case_of, held
+from support.planted import catches
 from support.unit import raises
 
 ASKED = {
@@ -56,6 +57,9 @@ def test_a_refusal_is_the_status(run, words):
     assert run(*words) == REFUSED
 
 
+@catches("indexctl/commands/users.py", "check_users(args.user, *(",
+         "find_leaving(Desk(args), args.user); check_users(args.user, *(", case="words11",
+         also=["test_a_slip_is_found_before_anything_is_asked_for[words12]"])
 @pytest.mark.parametrize("words", [
     ("name", "claim", "-"), ("name", "relinquish", "-"), ("owner", "add", "Bob", "a"), ("owner", "add", "bob", "-"),
     ("file", "delete", "x"), ("file", "ban", "x"), ("release", "yank", "-", "1"), ("release", "unyank", "-", "1"),
@@ -105,6 +109,8 @@ def test_a_token_is_printed_before_the_next_user_is_asked_for(run, monkeypatch):
     assert run("user", "add", "eve", "bob") == 0 and printed == [0, 1]
 
 
+@catches("indexctl/commands/users.py", "if token and end.status == UNREACHED:", "if not row:",
+         also=["indexctl/test_replies.py::test_who_takes_another_token_has_it_though_the_reply_was_lost"])
 @pytest.mark.parametrize("status, is_printed", [(UNREACHED, True), (REFUSED, False), (WRONG, False)])
 def test_a_token_that_the_user_may_have_now_is_printed(run, capsys, status, is_printed):
     """It stands nowhere else, and the one before may have ended."""
@@ -123,6 +129,7 @@ def test_a_token_that_was_not_made_here_is_not_printed(run, capsys):
     assert capsys.readouterr().out == ""
 
 
+@catches("indexctl/commands/users.py", "except OSError:", "except RuntimeError:")
 @pytest.mark.parametrize("verb", ["add", "rotate"])
 @pytest.mark.parametrize("end", [OSError(28, "No space left on device"), BrokenPipeError()])
 def test_a_token_that_can_t_be_printed_is_told(run, monkeypatch, capsys, verb, end):
@@ -142,6 +149,8 @@ def test_a_locked_user_has_a_token_that_nobody_knows(run, capsys):
     assert len({row["token_sha256"] for row in rows}) == 2 and capsys.readouterr().out == ""
 
 
+@catches("indexctl/commands/users.py", "for user in filter(desk.is_own, users):",
+         "for user in filter(desk.is_own, ()):")
 @pytest.mark.parametrize("words", [("lock", "eve", "ann"), ("leave", "ann", "--to", "bob")], ids=lambda it: it[0])
 def test_nobody_locks_out_the_user_who_asks(run, words):
     """The office's last token would be one that nobody knows, and only a restore helps then."""
@@ -151,6 +160,7 @@ def test_nobody_locks_out_the_user_who_asks(run, words):
     assert end.value.status == WRONG and run.desk.asked == []
 
 
+@catches("indexctl/interrupts.py", "except (KeyboardInterrupt, OSError):", "except KeyboardInterrupt:")
 @pytest.mark.parametrize("end", [OSError(28, "No space left on device"), BrokenPipeError()])
 def test_a_leave_whose_output_can_t_be_printed_says_to_run_it_again(run, monkeypatch, capsys, end):
     leaves(run)
@@ -177,6 +187,12 @@ def test_a_user_who_leaves_is_locked_and_taken_off_each_name(run):
     assert run.confirmed == ["ann will be locked, and taken off: alone, shared. The open cases of shared will end."]
 
 
+@catches("indexctl/commands/users.py",
+         'if desk.change(f"user {user}: lock", {"do": "set_token", "user": user, "token_sha256": sha256(token)}):',
+         'if (before := find_leaving(desk, user)) and desk.change(f"user {user}: lock", {"do": "set_token", '
+         '"user": user, "token_sha256": sha256(token)}):',
+         ("indexctl/commands/users.py", "leaving = find_leaving(desk, user)", "leaving = before"),
+         also=["test_a_name_that_was_claimed_until_the_lock_is_passed_on"])
 def test_names_are_listed_again_after_the_lock_and_never_from_a_cache(run):
     leaves(run)
     run.asked("user", "leave", "ann", "--to", "bob")
@@ -219,6 +235,7 @@ def end(request):
     signal.signal(number, before)
 
 
+@catches("indexctl/interrupts.py", 'note(sentence(), "yellow")', "pass")
 def test_a_leave_that_is_interrupted_says_to_run_it_again(run, capsys, end):
     leaves(run)
     before, change = signal.getsignal(end), run.desk.change
@@ -273,12 +290,15 @@ def test_files_and_owners_of_a_prohibited_name_are_told_first(run, capsys):
     assert run.looked == ["a-1.0.tar.gz"]
 
 
+@catches("indexctl/commands/names.py", "find_contents(desk.index, name, is_fresh=True) or []",
+         "find_contents(desk.index, name) or []")
 def test_a_file_that_came_a_moment_before_a_prohibition_leaves_the_cache(run):
     """The page that nginx keeps for a second does not have it."""
     run.asked("name", "prohibit", "a", "b")
     assert run.fresh == ["a", "b"]
 
 
+@catches("indexctl/commands/files.py", "if desk.delete(file):", "if not desk.delete(file):", case="delete")
 @pytest.mark.parametrize("verb", ["delete", "ban"])
 def test_a_file_that_is_gone_is_to_leave_the_cache(run, capsys, verb):
     run.asked("file", verb, "Frob_x-1.tar.gz", "spam-1.tar.gz")
@@ -287,6 +307,7 @@ def test_a_file_that_is_gone_is_to_leave_the_cache(run, capsys, verb):
     assert "On the server" in out.err
 
 
+@catches("indexctl/commands/names.py", "{shlex.quote(file)}", "{file}")
 @pytest.mark.parametrize("file", ["frob-1!2.0.tar.gz", "frob-1!!2-py3-none-any.whl"])
 def test_a_version_with_an_epoch_is_no_command_of_a_shell(run, capsys, file):
     run.asked("file", "delete", file)

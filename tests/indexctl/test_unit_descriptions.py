@@ -12,6 +12,7 @@ from indexctl.ends import Stop
 from indexctl.site import descriptions, rendering, safe
 from indexctl.site.about import Description
 from support.needed import want_module
+from support.planted import catches
 
 MARKDOWN, RST = "text/markdown", "text/x-rst"
 OTHERS = "script style svg math select template form noscript textarea title body html plaintext frameset".split()
@@ -50,11 +51,20 @@ NOTHING_RUNS = [
     ("&lt;script&gt;&amp;", "&lt;script&gt;&amp;"), ("a\u202eb\x07\x00c\u200dd", "a\\u202eb\\u0007\\u0000c\u200dd")]
 
 
+@catches("indexctl/site/safe.py", "made = TAGS.get(tag)", "made = TAGS.get(tag, tag)",
+         also=["test_no_description_leaves_its_part_of_the_page"])
+@catches("indexctl/site/safe.py", """yield f' id="text-{found["id"]}"'""", """yield f' id="{found["id"]}"'""",
+         also=["test_no_description_leaves_its_part_of_the_page",
+               "indexctl/test_site_said.py::test_a_description_is_rendered_and_does_nothing"])
+@catches("indexctl/site/safe.py", "elif is_address(url) or re.fullmatch", "elif url or re.fullmatch")
+@catches("indexctl/site/safe.py", "while self.stack:", "while False:",
+         also=["test_a_long_description_is_cut_and_its_elements_are_closed"])
 @pytest.mark.parametrize("text, made", WELL + NOTHING_RUNS)
 def test_of_html_what_shows_text_is_left(text, made):
     assert safe.safe(text) == made
 
 
+@catches("indexctl/site/safe.py", "return self.size > MOST_HTML", "return self.size < 0")
 def test_a_long_description_is_cut_and_its_elements_are_closed():
     made = safe.safe("<ul><li>" + "word & " * 100_000)
     assert made.endswith(f"</li></ul>{safe.MORE}")
@@ -62,11 +72,14 @@ def test_a_long_description_is_cut_and_its_elements_are_closed():
         assert safe.MOST_HTML - 10_000 < len(it) < safe.MOST_HTML + 10_000
 
 
+@catches("indexctl/site/safe.py", "len(around) >= MOST_DEEP", "len(around) < 0")
 def test_elements_are_no_deeper_than_a_browser_likes():
     made = safe.safe("<div>" * 5_000 + "a" + "</div>" * 5_000 + "<p>b</p>")
     assert made == "<div>" * 50 + "a" + "</div>" * 50 + "<p>b</p>"
 
 
+@catches("indexctl/site/safe.py", "shown = html.escape(readable(text[:MOST_HTML // 4]))",
+         "shown = readable(text[:MOST_HTML // 4])")
 def test_a_text_as_it_is_has_no_markup_and_an_end():
     assert safe.plain("<b>\r\n\u202e") == '<pre class="plain">&lt;b&gt;\n\\u202e</pre>\n'
     made = safe.plain("&" * 200_000)
@@ -84,6 +97,8 @@ def want_it_in_its_part(text):
     assert all(it.get("id", "text-").startswith("text-") for it in main[0].iter()), text
 
 
+@catches("indexctl/site/safe.py", "parent in parents if parents else parent", "True if parents else parent")
+@catches("indexctl/site/safe.py", "if parents else parent not in OF_PARTS", "if parents else True")
 @pytest.mark.parametrize("text", [
     "<li><div><li>a</div>b", "<dt><div><dd>a</div>b", "<dd><p><div><dt>a</div>b", "<ul><li><div><p><li>a</div>b</ul>",
     "<table><div><table>a", "<p><table><p><div><table>a", "<table><tr><td><div><tr>a</div>b", "<tr><div><td>a</div>b"])
@@ -109,6 +124,9 @@ def renderer():
         yield made
 
 
+@catches("indexctl/site/rendering.py", '"text/markdown": "markdown", "text/x-rst": "rst"',
+         '"text/markdown": "rst", "text/x-rst": "markdown"',
+         also=["indexctl/test_site_said.py::test_a_description_is_rendered_and_does_nothing"])
 @pytest.mark.parametrize("kind, text, made", [
     (MARKDOWN, "# Title\n\n*a* [b](https://b.example)\n", "<h3>Title</h3>\n<p><em>a</em> "
      '<a href="https://b.example" rel="noreferrer nofollow">b</a></p>\n'),
@@ -122,6 +140,8 @@ def test_a_description_is_rendered_as_its_kind_says(renderer, kind, text, made):
     assert renderer.html_of(Description(text, kind)) == made
 
 
+@catches("indexctl/site/rendering.py", "found[kind](text) if kind in found else None",
+         "(found.get(kind) or found['text/markdown'])(text)")
 @pytest.mark.parametrize("kind, text", [
     ("text/plain", "a"), ("text/html", "<b>a</b>"), (RST, ".. include:: /etc/passwd\n"),
     (RST, ".. csv-table::\n   :file: /etc/passwd\n"), (RST, ".. raw:: html\n\n   <b>\n"), (RST, "`a\n")])
@@ -133,6 +153,7 @@ def test_what_no_renderer_takes_is_shown_as_it_is(renderer, kind, text):
 WIDE = "".join(f".. |a{at}| replace:: {f'|a{at + 1}| ' * 4}\n" for at in range(30)) + ".. |a30| replace:: x\n\n|a0|\n"
 
 
+@catches("indexctl/site/descriptions.py", "if not self.process and not self.begin():", "if not self.process:")
 @pytest.mark.slow
 @pytest.mark.parametrize("kind, text", [(MARKDOWN, "<b>" * 30_000), (RST, WIDE)], ids=["deep", "wide"])
 def test_a_description_that_takes_too_long_ends_its_process_and_the_next_is_rendered(renderer, kind, text):
@@ -140,6 +161,7 @@ def test_a_description_that_takes_too_long_ends_its_process_and_the_next_is_rend
     assert renderer.html_of(Description("a", MARKDOWN)) == "<p>a</p>\n"
 
 
+@catches("indexctl/site/rendering.py", "resource.setrlimit(resource.RLIMIT_AS, (MOST_MEMORY, MOST_MEMORY))", "pass")
 def test_the_process_has_bounds_of_memory_and_files(renderer):
     renderer.html_of(Description("a", MARKDOWN))
     with open(f"/proc/{renderer.process.pid}/limits", encoding="ascii") as kept:
@@ -148,6 +170,8 @@ def test_the_process_has_bounds_of_memory_and_files(renderer):
     assert found["Max file size"] == found["Max core file size"] == ["0"] * 2
 
 
+@catches("indexctl/site/rendering.py", "# MemoryError and RecursionError are among what a description can bring about",
+         "raise")
 def test_a_description_that_takes_all_memory_is_shown_as_it_is(monkeypatch):
     def takes_all(_text):
         raise MemoryError
@@ -155,6 +179,7 @@ def test_a_description_that_takes_all_memory_is_shown_as_it_is(monkeypatch):
     assert rendering.rendered({MARKDOWN: lambda _: "a" * (4 * safe.MOST_HTML + 1)}, MARKDOWN, "a") is None
 
 
+@catches("indexctl/site/rendering.py", "signal.setitimer(signal.ITIMER_PROF, MOST_SECONDS)", "pass")
 def test_the_process_answers_each_line(monkeypatch):
     monkeypatch.setattr(rendering, "renders", lambda: {MARKDOWN: lambda text: f"<p>{text}</p><script>"})
     bounds, answers = [], []
@@ -174,6 +199,8 @@ class FakeRenderer:
         return None if found.text == "hostile" else f"<p>{found.text}</p>"
 
 
+@catches("indexctl/site/descriptions.py", "described == self.by and os.path", "os.path",
+         also=["indexctl/test_unit_site.py::test_a_wheel_whose_description_is_to_be_made_again_is_read_again"])
 def test_a_description_is_made_once_by_each_renderer(tmp_path):
     renderer = FakeRenderer()
     made = descriptions.Descriptions(str(tmp_path), renderer)
@@ -184,6 +211,9 @@ def test_a_description_is_made_once_by_each_renderer(tmp_path):
     assert not descriptions.Descriptions(str(tmp_path), renderer).has("a", by)
 
 
+@catches("indexctl/site/descriptions.py", "made or plain(found.text)", "made or found.text",
+         also=["test_without_a_renderer_each_description_is_shown_as_it_is",
+               "test_a_run_that_has_no_time_left_leaves_the_rest_to_the_next"])
 def test_what_is_hostile_is_shown_as_it_is_and_not_tried_again(tmp_path):
     made = descriptions.Descriptions(str(tmp_path), FakeRenderer())
     by = made.put("a", Description("hostile", MARKDOWN))
@@ -199,6 +229,7 @@ def test_without_a_renderer_each_description_is_shown_as_it_is(tmp_path, monkeyp
     assert made.has("a", by) and made.html("a", by) == '<pre class="plain">&lt;b&gt;\n</pre>\n'
 
 
+@catches("indexctl/site/descriptions.py", 'LATER = "later"', 'LATER = ""')
 def test_a_run_that_has_no_time_left_leaves_the_rest_to_the_next(tmp_path):
     renderer = FakeRenderer()
     renderer.has_time = False
@@ -207,6 +238,7 @@ def test_a_run_that_has_no_time_left_leaves_the_rest_to_the_next(tmp_path):
     assert not made.has("a", by) and made.html("a", by) == safe.plain("text")
 
 
+@catches("indexctl/site/descriptions.py", "self.spent += time.monotonic() - began", "self.spent += 0")
 def test_what_a_run_spends_on_descriptions_is_counted():
     with descriptions.Renderer() as renderer:
         assert renderer.has_time
@@ -239,12 +271,15 @@ def test_a_process_that_has_answered_is_not_ended_by_its_clock(monkeypatch):
     assert Timer.made and all(it.is_over for it in Timer.made)
 
 
+@catches("indexctl/site/descriptions.py", "more = MORE if made", "more = '' if made")
 def test_a_description_that_is_too_long_says_so(tmp_path):
     made = descriptions.Descriptions(str(tmp_path), FakeRenderer())
     by = made.put("a", Description("a" * (descriptions.MOST_TEXT + 1), MARKDOWN))
     assert made.html("a", by).endswith(safe.MORE)
 
 
+@catches("indexctl/site/descriptions.py", "set(os.listdir(self.folder)).difference(",
+         "set(os.listdir(self.folder)).intersection(")
 def test_descriptions_that_no_page_has_go(tmp_path):
     made = descriptions.Descriptions(str(tmp_path), FakeRenderer())
     for digest in ("a", "b"):
@@ -253,6 +288,7 @@ def test_descriptions_that_no_page_has_go(tmp_path):
     assert os.listdir(made.folder) == ["a.html"]
 
 
+@catches("indexctl/site/descriptions.py", "if os.path.islink(self.folder):", "if os.path.islink(folder):")
 def test_a_link_in_the_place_of_the_descriptions_removes_no_others(tmp_path):
     (tmp_path / "mine").mkdir()
     (tmp_path / ".descriptions").symlink_to(tmp_path / "mine")
@@ -260,6 +296,7 @@ def test_a_link_in_the_place_of_the_descriptions_removes_no_others(tmp_path):
         descriptions.Descriptions(str(tmp_path), FakeRenderer())
 
 
+@catches("indexctl/site/descriptions.py", "with self.lock:", "with threading.Lock():")
 def test_threads_take_their_turns(renderer):
     """Several read files at once, and each gets the answer to its own."""
     found = {}
@@ -274,6 +311,7 @@ def test_threads_take_their_turns(renderer):
     assert found == {at: [f"<p>{at}</p>\n"] * 5 for at in range(8)}
 
 
+@catches("indexctl/site/descriptions.py", 'cwd=os.sep, env={"LC_ALL": "C.UTF-8"}', "cwd=None, env=None")
 def test_the_process_sees_nothing_of_this_one():
     """Neither its folder, of which docutils would read a file of settings, nor its environment."""
     with descriptions.Renderer() as renderer:

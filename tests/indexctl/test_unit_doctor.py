@@ -13,6 +13,7 @@ from indexctl.doctor import LOOK, WELL, WRONG
 from indexctl.ends import Stop
 from support.indexctl.desk import FakeDesk
 from support.indexctl.rows import SETTING, FakeIndex, args, reply
+from support.planted import catches
 from support.unit import raises
 
 DAY = 86_400
@@ -29,6 +30,7 @@ def test_a_certificate_that_ends_soon_is_to_be_told(days, is_well):
     assert ("operator" in found.do) != is_well
 
 
+@catches("indexctl/doctor.py", "off = round(now - there)", "off = round(there - there)")
 @pytest.mark.parametrize("off, said", [(0, "as that"), (60, "as that"), (-60, "as that"), (61, "61 seconds ahead of"),
                                        (-3_600, "3600 seconds behind")])
 def test_a_clock_is_compared_with_that_of_the_reply(off, said):
@@ -57,6 +59,7 @@ def test_the_version_is_that_of_the_tool_that_the_index_serves(data, version):
     assert doctor.version_in(data) == version
 
 
+@catches("indexctl/doctor.py", "if there == VERSION:", "if there:")
 @pytest.mark.parametrize("status, body, wanted", [
     (200, tool(f'VERSION = "{VERSION}"\n'), WELL), (200, tool('VERSION = "9.9.9"\n'), LOOK), (404, b"", WELL)],
     ids=itertools.count())

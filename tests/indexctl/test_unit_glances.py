@@ -8,6 +8,7 @@ import pytest
 from indexctl import transport
 from indexctl.transport import NotSent, Request
 from support.indexctl.listener import PLAIN, Listener, index_of
+from support.planted import catches
 from support.unit import raises, with_time
 
 
@@ -19,6 +20,7 @@ def glances(connections, count):
     return found, listener.came
 
 
+@catches("indexctl/transport.py", '"Accept-Encoding": "identity", **self.headers}', '"Accept-Encoding": "identity"}')
 @pytest.mark.parametrize("pieces", [
     [PLAIN + b"\r\nok"], [PLAIN + b"\r\n", b"ok"], [PLAIN[:20], PLAIN[20:] + b"\r", b"\no", b"k"],
     [PLAIN.lower().replace(b"http", b"HTTP") + b"\r\nok"]])
@@ -46,6 +48,7 @@ def plain(count, *pieces):
     return found, is_last
 
 
+@catches("indexctl/transport.py", "while len(given) < length:", "while len(given) < min(1, length):")
 def test_all_pieces_of_a_plain_reply_are_read():
     assert plain(1, PLAIN[:9], PLAIN[9:], b"\r\n", b"o", b"k") == ([b"ok"], False)
     assert plain(1, PLAIN, b"\r\n", b"o") == ([None], True)
@@ -81,6 +84,7 @@ def test_on_a_kept_connection_several_go_out_at_once():
         paths[:1], paths[1:17], paths[17:], paths[18:], paths[:1])]
 
 
+@catches("indexctl/transport.py", "self.kept.ahead = 1 if is_last else MOST_AHEAD", "self.kept.ahead = MOST_AHEAD")
 def test_what_a_reply_that_is_the_last_leaves_is_asked_on_another_connection():
     """One at a time there, until it is seen that it is kept."""
     with Listener([[LAST]], [[LAST]], [[OTHER], [OTHER]]) as listener:
@@ -98,6 +102,7 @@ def test_behind_a_failure_nothing_is_asked_at_a_glance(monkeypatch, failure):
     assert index.glances(["/a", "/b", "/c"]) == 3 * [None] and len(tried) == 1
 
 
+@catches("indexctl/transport.py", "found, self.found = self.found, None", "found = self.found")
 def test_the_address_of_a_host_is_found_once_and_again_after_a_failure(monkeypatch):
     found, look = [], socket.getaddrinfo
     monkeypatch.setattr(socket, "getaddrinfo", lambda *it: found.append(it) or look(*it))
@@ -108,6 +113,9 @@ def test_the_address_of_a_host_is_found_once_and_again_after_a_failure(monkeypat
     assert index.glances(["/a"]) == [None] and len(found) == 2
 
 
+@catches("indexctl/transport.py", 'is_plain = (head.startswith(b"http/1.1 200 ") and', "is_plain = (")
+@catches("indexctl/transport.py", "and not CODED.search(head))", ")")
+@catches("indexctl/transport.py", "is_plain = is_plain and bool(count or not given)", "")
 @pytest.mark.parametrize("reply_", [
     b"HTTP/1.1 404 Not Found\r\nContent-Length: 2\r\n\r\nok", b"HTTP/1.0 200 OK\r\nContent-Length: 2\r\n\r\nok",
     PLAIN + b"Transfer-Encoding: chunked\r\n\r\nok", PLAIN + b"Content-Encoding: gzip\r\n\r\nok",
@@ -119,15 +127,19 @@ def test_any_other_reply_is_not_seen_at_a_glance_and_ends_its_connection(reply_)
     assert found == [None, b"ok"]
 
 
+@catches("indexctl/transport.py", "is_last = True", "is_last = False")
 def test_a_connection_that_is_reset_is_not_asked_again():
     assert glances([[], [[PLAIN + b"\r\nok"]]], 2)[0] == [None, b"ok"]
 
 
+@catches("indexctl/transport.py", "if is_last:", "if True:")
 def test_a_connection_is_kept_from_glance_to_glance():
     plain = [PLAIN + b"\r\nok"]
     assert glances([[plain, plain, plain]], 3)[0] == 3 * [b"ok"]
 
 
+@catches("indexctl/transport.py", r'is_last = not is_plain or b"\r\nconnection: close\r\n" in head',
+         "is_last = not is_plain")
 def test_a_connection_that_the_reply_ends_is_not_asked_again():
     last = [PLAIN + b"Connection: close\r\n\r\nok"]
     assert glances([[last], [last]], 2)[0] == 2 * [b"ok"]

@@ -7,6 +7,7 @@ import pytest
 from indexctl.command_line import load
 from indexctl.ends import REFUSED, UNREACHED, Stop
 from support.indexctl.rows import held
+from support.planted import catches
 from support.unit import raises
 
 # what prints a text for a shell or a person, or the file that holds the settings
@@ -14,6 +15,8 @@ WITHOUT = {"help", "completion", "man"}
 TOKEN = 64
 
 
+@catches("indexctl/commands/names.py", '@command("name relinquish", NAME, YES, JSON_LINES)',
+         '@command("name relinquish", NAME, YES)')
 @pytest.mark.parametrize("it", [it for it in load() if it.path not in WITHOUT], ids=lambda it: it.path)
 def test_each_command_prints_json(it):
     assert "--json" in [name for given in it.arguments for name in given.names]
@@ -88,12 +91,16 @@ MANY = {("case", "answer", "a", "b"): {"do": "answer_case"}, ("case", "close", "
         ("quota", "set", "a", "b", "+1KiB"): {"do": "set_quota", "quota": 2_024}}
 
 
+@catches("indexctl/commands/names.py", 'desk.change(what.format(name), {"do": do, "name": name, **row})',
+         'desk.change(what.format(name), {"do": do, "name": args.names[0], **row})')
 @pytest.mark.parametrize("words", MANY, ids=" ".join)
 def test_many_names_are_asked_for_in_one_run(run, words):
     run.names = [held("a"), held("b")]
     assert run.asked(*words) == [{**MANY[words], "name": it} for it in "ab"]
 
 
+@catches("indexctl/commands/listings.py", "for found in [held(desk.index, it) for it in args.names]:",
+         "for found in (held(desk.index, it) for it in args.names):")
 def test_a_slip_in_a_name_changes_no_quota(run):
     run.names = [held("a")]
     with pytest.raises(Stop, match="^Nobody holds b.$"):
@@ -101,6 +108,7 @@ def test_a_slip_in_a_name_changes_no_quota(run):
     assert not run.desk.asked
 
 
+@catches("indexctl/commands/cases.py", 'confirm(args, " ".join(passes))', "confirm(args, passes[0])")
 def test_transfers_of_several_names_are_asked_about_once(run):
     from support.indexctl.rows import case_of
     run.names = [held("a", case=case_of()), held("b"), held("c", case=case_of(candidate="eve"))]

@@ -12,6 +12,7 @@ from hypothesis import strategies as st
 from indexctl.lookalikes import FEWEST_LETTERS, TOGETHER, alike, one_letter_apart, texts_of
 from indexctl.near import is_near
 from package_index.names import normal
+from support.planted import catches
 
 LETTERS = string.ascii_lowercase
 
@@ -21,6 +22,10 @@ def groups(*names):
     return alike({name: [f"of {name}"] for name in names})
 
 
+@catches("indexctl/lookalikes.py", 'return text, text if text.isalpha() else DIGITS.sub("", text) or text',
+         "return text, text")
+@catches("indexctl/lookalikes.py", "if turned != text and turned in texts:", "if turned != text and not texts:",
+         also=["test_the_groups_are_those_of_all_pairs"])
 @pytest.mark.parametrize("names", [
     ("amber-client", "amberclient"), ("frob", "frob2"), ("frob-2-x", "frobx"), ("amber-cache", "amber-cahce"),
     ("tool-zoe", "tool-zoes"), ("tool-zoe", "toll-zoe"), ("tool-zoe", "ool-zoe"), ("h5", "h-6"), ("11", "1-1"),
@@ -46,6 +51,8 @@ def test_groups_come_in_the_order_of_their_names():
     assert groups(*names) == [["amber-cache", "amber-cahce"], ["frob", "frog"], ["zulu-x", "zulux"]]
 
 
+@catches("indexctl/lookalikes.py", "if len({frozenset(owners[it]) for it in names}) > 1)",
+         "if not frozenset.intersection(*(frozenset(owners[it]) for it in names)))")
 def test_names_of_the_same_owners_are_left_out():
     assert alike({"frob": ["ann", "bob"], "frob2": ["bob", "ann"]}) == []
     # whoever has taken a name alike may add the owner of the other to it
@@ -94,6 +101,11 @@ def test_texts_that_share_parts_are_joined_as_all_are(texts):
     assert joined(one_letter_apart(texts)) == joined(all_pairs(texts))
 
 
+@catches("indexctl/lookalikes.py", "near = shared(group, lengths.get(length - 1, []), start, end)",
+         "near = shared(group, [], start, end)")
+@catches("indexctl/lookalikes.py", "hash(text[:start] + text[end + 1:])", "hash(text[:start] + text[end:])",
+         ("indexctl/lookalikes.py", "hash(text[:start] + text[end:]) % SLOTS] = 1",
+          "hash(text[:start] + text[end - 1:]) % SLOTS] = 1"))
 def test_a_slip_at_each_place_of_each_length_joins(chance, looked):
     """Of texts that share nothing else, at the boundaries of parts too."""
     for length in range(FEWEST_LETTERS, 6 * TOGETHER):

@@ -8,6 +8,7 @@ import pytest
 from indexctl import main
 from indexctl.ends import INTERRUPTED, REFUSED, WRONG, Stop
 from indexctl.terminal import confirm_on_terminal, note, say
+from support.planted import catches
 from support.unit import calls, raises
 
 
@@ -28,6 +29,7 @@ def test_why_it_ends_is_told_and_is_its_status(monkeypatch, capsys, end, status,
     assert said in err and not out
 
 
+@catches("indexctl/main.py", "if getattr(sys, name) is None:", "if not name:")
 @pytest.mark.parametrize("stream", ["stdin", "stderr"])
 def test_a_stream_that_is_closed_is_an_empty_one(monkeypatch, stream):
     """Python has none then, as behind `<&-`."""
@@ -41,6 +43,7 @@ def test_a_stream_that_is_closed_is_an_empty_one(monkeypatch, stream):
     getattr(sys, stream).close()
 
 
+@catches("indexctl/main.py", "if sys.stdout is None:", "if sys.stdin is None:")
 def test_a_closed_output_ends_a_run_before_anything_is_asked_for(monkeypatch, capsys):
     """What can't be told, such as a new token, would be lost."""
     asked = []

@@ -10,6 +10,7 @@ from indexctl.moving.imports import read_owners, some
 from indexctl.moving.items import Found, Item, Left, add_items, read_wanted, reason_of, settle, tell_missing, why_not
 from indexctl.moving.pool import AT_ONCE, at_once
 from indexctl.moving.web import Failure
+from support.planted import catches
 from support.unit import raises
 
 WHEEL, OTHER, SOURCE = "frob-1.0-py3-none-any.whl", "frob-2.0-py3-none-any.whl", "frob-1.0.tar.gz"
@@ -102,6 +103,8 @@ def test_a_file_has_the_owners_of_names(tmp_path):
     assert some(["a"] * 10) == ", ".join("a" * 10) and some(["a"] * 11).endswith("a, .. (11 names)")
 
 
+@catches("indexctl/moving/web.py", 'if parts.scheme in ("http", "https") and parts.hostname',
+         "if parts.scheme and parts.hostname")
 @pytest.mark.parametrize("url", [
     "file:///etc/passwd", "ftp://a/x", "data:,x", "javascript:x", "//a/x", "x", "http:///x", "http://[::1/x",
     "http://a:99999/", "http://a/\nx", "gopher://a"])

@@ -10,6 +10,7 @@ from indexctl.moving.items import Item
 from indexctl.moving.pages import read_page
 from indexctl.moving.web import Failure, Reply
 from indexctl.standings import JSON_PAGE
+from support.planted import catches
 
 URL = "https://example.com/simple/holygrail/"
 DIGEST = "d" * 64
@@ -155,6 +156,7 @@ def test_a_page_that_was_cut_off_is_asked_for_again(text, kind, is_whole, is_cut
         read_page(reply(text, kind, is_whole=is_whole), "files")
 
 
+@catches("indexctl/moving/pages.py", "if len(page.items) > MOST_LINKS:", "if False:")
 def test_a_page_has_a_bounded_number_of_links(monkeypatch):
     assert (pages.MOST_LINKS, pages.MOST_PAGE) == (100_000, 32 << 20)
     monkeypatch.setattr(pages, "MOST_LINKS", 2)
@@ -165,6 +167,7 @@ def test_a_page_has_a_bounded_number_of_links(monkeypatch):
             read(3)
 
 
+@catches("indexctl/moving/pages.py", r'''NAME, VALUE = r"""[^\s=<>"'/]+""",''', 'NAME, VALUE = r"""[^=>]+""",')
 @pytest.mark.timeout(60)
 @pytest.mark.parametrize("text", ["<a " * 400_000, "<a x" + " y" * 600_000, '<a x="' * 300_000, "<!--" * 300_000,
                                   "<a" + " " * 1_200_000, "<a href='\"" * 200_000, '<a b="<a b=\' ' * 120_000])

@@ -12,6 +12,7 @@ from indexctl import cases, page, quotas
 from indexctl.ends import WRONG, Stop
 from indexctl.units import SIX_WEEKS, YEAR, due, moment
 from support.indexctl.rows import OPENED, case_of, held
+from support.planted import catches
 
 
 def row_at(now, refusal=None, **changed):
@@ -50,6 +51,8 @@ def test_owners_have_what_they_own_alone():
     assert [(it.name, it.alone) for it in found["ann"]] == [("a", False)]
 
 
+@catches("indexctl/quotas.py", "if self.is_whole or row.full >= HIGH:", "if self.is_whole or row.full >= 0:")
+@catches("indexctl/quotas.py", "if self.is_whole or is_alone:", "if self.is_whole or found.owners:")
 def test_a_page_keeps_what_somebody_has_to_look_at():
     names = [held("a", charge=79, quota=100, owners=["ann", "bob"]), held("b", charge=80, quota=100),
              held("c", owners=["bob"]), held("d", owners=["ann", "bob"], case=case_of())]
@@ -60,6 +63,8 @@ def test_a_page_keeps_what_somebody_has_to_look_at():
     assert {user: [it.name for it in owned] for user, owned in found.owned.items()} == {"ann": ["b"], "bob": ["c"]}
 
 
+@catches("indexctl/quotas.py", "if self.is_whole or row.full >= HIGH:", "if row.full >= HIGH:",
+         also=["indexctl/test_page.py::test_there_is_a_row_for_each_name_and_each_owner"])
 def test_a_page_of_all_keeps_all():
     names = [held("a", owners=["ann", "bob"]), held("b", charge=80, quota=100)]
     found = overview_of(*names)
@@ -147,6 +152,9 @@ def test_no_text_turns_the_line():
     assert "a\\u202eb" in page.case_card(row, OPENED) and "\\u2066 asks" in page.case_card(row, OPENED)
 
 
+@catches("indexctl/cases.py", "return row.first is None or row.sent < FEWEST_SENT or not all(map(row.has, MEANS))",
+         "return row.first is None",
+         also=["indexctl/test_unit_cases.py::test_a_case_that_lacks_attempts_is_ready_at_no_moment"])
 def test_a_card_is_ready_at_no_moment_if_attempts_lack():
     card = page.case_card(row_at(OPENED + 2 * SIX_WEEKS, pages=False), OPENED)
     assert '<span class="tag">lacks attempts</span>' in card
@@ -187,6 +195,7 @@ def test_names_that_look_alike_are_shown_with_their_owners():
     assert "".join(page.alike_part(overview_of(held("frob"), held("other")))) == '<p class="none soft">None.</p>'
 
 
+@catches("indexctl/page.py", '{"".join(map(shown, names[:MOST_ALIKE]))}', '{"".join(map(shown, names))}')
 def test_of_many_names_that_look_alike_some_are_shown():
     names = [held(f"frob-{at:02}", owners=[f"user{at}"]) for at in range(15)]
     part = "".join(page.alike_part(overview_of(*names)))
@@ -218,6 +227,9 @@ def test_a_page_is_put_whole_where_everybody_reads_it(tmp_path):
     assert os.listdir(tmp_path) == ["index.html"]
 
 
+@catches("indexctl/page.py", 'with open(part, "x", encoding="utf-8") as out:',
+         'with open(part, "w", encoding="utf-8") as out:',
+         ("indexctl/page.py", "with suppress(FileNotFoundError):", "while False:"))
 def test_a_link_beside_a_page_leads_nowhere(tmp_path):
     path, mine = tmp_path / "index.html", tmp_path / "mine"
     mine.write_text("mine")

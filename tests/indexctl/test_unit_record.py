@@ -11,6 +11,7 @@ import pytest
 from indexctl import record as records
 from indexctl.ends import WRONG, Stop
 from indexctl.record import Record
+from support.planted import catches
 from support.unit import raises, with_time
 
 
@@ -62,6 +63,9 @@ def test_nobody_else_has_even_a_shared_lock_while_room_is_taken(folder):
     assert is_free(path)
 
 
+@catches("indexctl/record.py", "        self.lock()", "        size = os.fstat(self.file).st_size; self.lock()",
+         ("indexctl/record.py", "        end, is_kept = os.fstat(self.file).st_size, []",
+          "        end, is_kept = size, []"))
 def test_a_row_comes_behind_those_that_another_run_has_kept_meanwhile(tmp_path, monkeypatch):
     """Until a run has the lock, the record may grow. (Two processes show this if the machine has time for both.)"""
     path, lock = tmp_path / "record", fcntl.flock
@@ -90,6 +94,7 @@ def test_the_lock_is_given_back_if_the_change_fails(folder):
     assert is_free(path) and os.path.getsize(path) == 0
 
 
+@catches("indexctl/record.py", "for _ in range(QUIET_TRIALS):", "while True:")
 @pytest.mark.parametrize("busy, said", [(0, ""), (19, ""), (20, "Another indexctl is at work with the record")])
 def test_who_waits_long_for_another_run_is_told(tmp_path, monkeypatch, capsys, busy, said):
     """As for one that Ctrl-Z stopped: it has the record until it ends."""
@@ -174,6 +179,7 @@ def test_a_disk_that_is_full_leaves_the_record_as_it_was(tmp_path, monkeypatch):
     assert end.value.status == WRONG and (tmp_path / "record").read_text() == "{}\n"
 
 
+@catches("indexctl/record.py", "            with suppress(OSError):", "            with suppress(FileNotFoundError):")
 def test_a_disk_that_takes_nothing_back_either_is_told_all_the_same(tmp_path, monkeypatch):
     record = Record(str(tmp_path / "record"))
     monkeypatch.setattr(os, "pwrite", raises(OSError(errno.EIO, "Input/output error")))
@@ -183,6 +189,7 @@ def test_a_disk_that_takes_nothing_back_either_is_told_all_the_same(tmp_path, mo
             raise AssertionError("the change was asked for")
 
 
+@catches("indexctl/record.py", "except OSError as failed:", "except ZeroDivisionError as failed:")
 def test_a_change_whose_line_can_t_be_written_is_told_as_accepted(tmp_path, monkeypatch):
     """As on a file system that writes what it has room for elsewhere."""
     record = Record(str(tmp_path / "record"))
@@ -196,6 +203,7 @@ def test_a_change_whose_line_can_t_be_written_is_told_as_accepted(tmp_path, monk
     assert end.value.errno == errno.ENOSPC
 
 
+@catches("indexctl/record.py", "        except OSError as end:", "        except FileNotFoundError as end:")
 @pytest.mark.parametrize("name, why", [("none/record", "No such file"), ("", "Is a directory")])
 def test_a_record_that_can_t_be_made_is_told(tmp_path, name, why):
     with pytest.raises(Stop, match=f"can't be written: {why}.*Nothing was asked for") as end:

@@ -7,6 +7,7 @@ import json
 import pytest
 from indexctl import replays
 from indexctl.ends import WRONG, Stop
+from support.planted import catches
 
 URL, ME = "https://packages.example", "01234567"
 
@@ -58,6 +59,9 @@ def test_an_upload_by_twine_in_an_older_log_has_no_file(path, more):
     assert replays.why_left(found, URL, ME, True).startswith("it is an upload by twine or its like")
 
 
+@catches("indexctl/replays.py", 'return {"do": "upload", "file": str(found.get("file", ""))}',
+         'return {"do": "upload", "file": ""}',
+         also=["indexctl/test_history.py::test_the_log_alone_says_who_did_what_and_who_uploaded_by_twine"])
 def test_an_upload_by_twine_is_shown_with_its_file():
     found = replays.read_line(1, logged(method="POST", path="/legacy/", body="", file="frob-1.0.tar.gz", caller=ME))
     assert found.row == {"do": "upload", "file": "frob-1.0.tar.gz"}
@@ -65,12 +69,15 @@ def test_an_upload_by_twine_is_shown_with_its_file():
         "its bytes are needed: let an owner upload the same file again")
 
 
+@catches("indexctl/replays.py", 'found.get("path", REQUESTS) != REQUESTS:',
+         'found.get("path", REQUESTS).startswith("/legacy"):')
 @pytest.mark.parametrize("path", ["//legacy/", "/legacy%2F", "/x/../legacy/"])
 def test_an_upload_by_twine_is_known_by_any_address_that_nginx_takes_for_it(path):
     """An address with a slash too much, say: the line of one owner would end the replay of all."""
     assert replays.read_line(1, logged(method="POST", path=path, body="")).row == {"do": "upload", "file": ""}
 
 
+@catches("indexctl/replays.py", "if not unanswered:", "if True:")
 @pytest.mark.parametrize("body", ["", "x", "[]", "[" * 9_999, '{"do":7}', '{"do":"ban_file","file":7}', '{"name":"a"}'],
                          ids=lambda it: it[:20])
 def test_a_body_of_anybody_that_the_index_did_not_answer_ends_no_replay(body):
@@ -114,6 +121,8 @@ def test_lines_keep_their_numbers_past_empty_ones_and_refused_ones(tmp_path):
     assert [it.number for it in replays.read_lines(str(record))] == [1, 5]
 
 
+@catches("indexctl/replays.py", "with text_of(path) as kept:",
+         'with open(path, encoding="utf-8", errors="replace") as kept:')
 def test_a_log_that_logrotate_compressed_is_read(tmp_path):
     packed = gzip.compress(f"{logged(method='PUT', path='/files/a/a-1.tar.gz')}\n".encode())
     (tmp_path / "log.gz").write_bytes(packed)
@@ -129,6 +138,8 @@ def test_bytes_that_are_no_text_end_no_replay(tmp_path):
     assert replays.read_lines(str(tmp_path / "record"))[0].row["reason"] == "\ufffd"
 
 
+@catches("indexctl/replays.py", "    except (OSError, EOFError, zlib.error) as end:",
+         "    except (FileNotFoundError, EOFError, zlib.error) as end:")
 @pytest.mark.parametrize("name, why", [("none", "No such file"), ("", "Is a directory")])
 def test_a_record_that_can_t_be_read_is_told(tmp_path, name, why):
     with pytest.raises(Stop, match=f"{name} can't be read: {why}") as end:

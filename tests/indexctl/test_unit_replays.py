@@ -11,6 +11,7 @@ from indexctl.commands import work
 from indexctl.ends import Stop
 from indexctl.terminal import say_row
 from support.indexctl.rows import args, case_of, held
+from support.planted import catches
 
 URL, ME = "https://packages.example", "01234567"
 
@@ -259,6 +260,8 @@ def test_a_replay_that_is_interrupted_says_at_which_line(replayed, capsys, end):
     assert capsys.readouterr().err.endswith("Go on by --from 2, or the line after it.\n")
 
 
+@catches("indexctl/replays.py", "and it.again is None and not it.unanswered] + [line]",
+         "and it.again is None] + [line]")
 def test_an_attempt_without_an_answer_is_not_taken_for_one_that_was_made():
     """The case has the first and the third, so the third is left: asked for once more it would count twice."""
     desk, lines = FakeDesk(), [attempt(1), attempt(2, unanswered=502), attempt(3)]

@@ -8,6 +8,7 @@ from indexctl.contents import FileRow, ReleaseRow
 from indexctl.ends import REFUSED, WRONG, Stop
 from indexctl.room import day_of, older_than, releases_over
 from indexctl.versions import order
+from support.planted import catches
 
 TODAY = datetime.date(2026, 11, 30)
 ENDS = "-py3-none-any.whl", ".tar.gz"
@@ -24,6 +25,10 @@ def over(found, *given):
     return [it.release for it in releases_over(found, *given)]
 
 
+@catches("indexctl/room.py", "return found[at:]", "return found[:at]",
+         also=["indexctl/test_room.py::test_old_nightly_builds_go_and_their_room_counts_again"])
+@catches("indexctl/room.py", "and fnmatchcase(it.release, pattern.lower())]", "]",
+         also=["indexctl/test_room.py::test_a_person_is_shown_the_releases_and_types_yes"])
 @pytest.mark.parametrize("keep, pattern, gone", [
     (1, "*.dev*", ["1.1.dev3", "1.1.dev2", "1.1.dev1"]), (4, "*.dev*", []), (9, "*", []), (7, "*", []),
     (6, "*", ["1.0"]), (2, "*", NIGHTLY[2:]), (0, "1.1.DEV?", ["1.1.dev3", "1.1.dev2", "1.1.dev1"]), (0, "2*", [])])
@@ -32,17 +37,20 @@ def test_all_but_the_newest_go_by_pep_440(keep, pattern, gone):
     assert over(rows(*reversed(NIGHTLY)), keep, pattern) == gone
 
 
+@catches("indexctl/room.py", "if row.yanked is None:", "if True:")
 def test_a_yanked_release_takes_nobody_s_place():
     """Else the releases that people get would go before the one that nobody gets."""
     assert over(rows("3.0", "2.0", "1.0", yanked=["3.0", "2.0"]), 1) == []
     assert over(rows("4.0", "3.0", "2.0", "1.0", yanked=["4.0", "2.0"]), 1) == ["2.0", "1.0"]
 
 
+@catches("indexctl/room.py", "version = order(row.release)[:-1]", "version = order(row.release)")
 def test_spellings_of_one_version_count_once():
     assert over(rows("2.0", "1.00", "1.0", "v1.0.0", "0.9"), 2) == ["0.9"]
     assert over(rows("2.0", "1.00", "1.0"), 1) == ["1.00", "1.0"]
 
 
+@catches("indexctl/room.py", "if is_release(it.release) and fn", "if fn")
 def test_what_is_no_version_stays():
     assert over(rows("1.0", "2004d", "nightly", "0.9"), 1) == ["0.9"]
     assert over(rows("2004d", "nightly"), 0) == []
@@ -56,6 +64,7 @@ def test_a_dev_post_or_pre_number_may_be_a_day(release, day):
     assert day_of(release) == datetime.date(*day)
 
 
+@catches("indexctl/room.py", "if found.year >= FIRST_YEAR:", "if found:")
 @pytest.mark.parametrize("release", [
     "1.0", "1.0.dev1", "1.0.dev20261131", "1.0.dev20250229", "1.0.dev2026113", "1.0.dev202611301", "1.0.dev19991231",
     "20261130", "2026.11.30", "1.0+20261130", "1.0.dev0+g20261130", "1.0.dev2026113024", "1.0.dev99999999",
@@ -64,6 +73,7 @@ def test_what_is_no_day_is_none(release):
     assert day_of(release) is None
 
 
+@catches("indexctl/room.py", "(today - day).days > days]", "(today - day).days >= days]")
 def test_only_what_is_older_by_its_version_goes():
     found = rows("1.0.dev20261031", "1.0.dev20261030", "1.0.dev7", "1.0.dev20271231")
     assert [it.release for it in older_than(found, 30, TODAY)] == ["1.0.dev20261030"]
@@ -99,6 +109,7 @@ def test_releases_may_be_named(run):
                                            *(f"frob-1.1{it}" for it in ENDS)]
 
 
+@catches("indexctl/commands/releases.py", "if (name, release.lower()) not in rows:", "if False:")
 @pytest.mark.parametrize("words, said", [
     (("frob", "9.9", "1.0"), "frob has no release 9.9. Nothing was done."),
     (("frob", "1.1.dev4"), "Did you mean `1.1.dev3` or `1.1.dev2` or `1.1.dev1`? Nothing was done."),
@@ -135,6 +146,7 @@ def test_nothing_to_delete_is_told(run, capsys):
     assert capsys.readouterr().err == "There is nothing to delete.\n" and not run.confirmed
 
 
+@catches("indexctl/commands/releases.py", '"Some of the files are there still. Run it again."', '""')
 def test_a_deletion_that_is_interrupted_says_to_run_it_again(run, capsys):
     run.contents = {"frob": files("1.0", "1.1")}
 

@@ -8,6 +8,7 @@ from indexctl import served
 from indexctl.ends import UNREACHED, Stop
 from support.indexctl.desk import FakeDesk
 from support.indexctl.rows import FakeIndex, reply
+from support.planted import catches
 from support.unit import raises, with_time
 
 FILE = "frob-1!2.0.tar.gz"
@@ -32,6 +33,7 @@ def test_a_file_that_is_gone_is_told_at_once(capsys, monkeypatch):
         f"{FILE}: {URL} serves it no more\n", [("HEAD", "/files/frob/frob-1%212.0.tar.gz")])
 
 
+@catches("indexctl/served.py", "if time.monotonic() > until or not", "if True or not")
 def test_one_that_nginx_gives_up_soon_is_waited_for(capsys, monkeypatch):
     said, asked = told(capsys, monkeypatch, 200, 200, 404)
     assert said == f"{FILE}: {URL} serves it no more\n" and len(asked) == 3
@@ -44,6 +46,7 @@ def test_one_that_goes_out_still_is_told_with_what_to_do(capsys, monkeypatch, st
     assert len(asked) == 5, "three seconds, and a last look"
 
 
+@catches("indexctl/served.py", "if status == GONE:", "if status not in GIVEN:")
 @pytest.mark.parametrize("status", [401, 403, 301])
 def test_what_another_status_means_is_not_guessed(capsys, monkeypatch, status):
     assert told(capsys, monkeypatch, status)[0] == f"{FILE}: {URL} may still serve it: it answers {status}.\n"

@@ -7,6 +7,7 @@ import re
 import pytest
 from indexctl import settings
 from indexctl.ends import WRONG, Stop
+from support.planted import catches
 
 
 @pytest.fixture(autouse=True)
@@ -31,6 +32,8 @@ def test_a_secret_is_one_line_that_nobody_else_reads(home, mode):
     assert settings.read_secret(put(home / "s", " abc def \n", mode), "x") == "abc def"
 
 
+@catches("indexctl/settings.py", 'with open(path, encoding="utf-8-sig") as kept:',
+         'with open(path, encoding="utf-8") as kept:')
 def test_files_of_windows_may_begin_with_a_mark(home):
     """Its editors and shells put a byte order mark before UTF-8."""
     profiles(home, "\ufeff" + ONE)
@@ -102,6 +105,7 @@ def test_an_address_is_shown_without_its_password(url, shown):
     assert settings.without_password(url) == shown
 
 
+@catches("indexctl/settings.py", 'and is_host(parts.hostname or "")', "and parts.hostname")
 @pytest.mark.parametrize("url", [
     "packages.example", "ftp://packages.example", "https://", "https://h/simple", "https://h?x", "https://h:x",
     "https://ann:1#w@h", "https://h/#x", "https://ann:\udcff@h",
@@ -162,6 +166,7 @@ def test_a_netrc_that_can_t_be_read_is_told(home, text):
     assert end.value.status == WRONG
 
 
+@catches("indexctl/settings.py", 're.sub(" token .*", f" token in line {end.lineno}", end.msg)', "end.msg")
 @pytest.mark.parametrize("text, line", [("machine h login r password two words", 1), ("\nwords", 2)])
 def test_a_mistake_in_netrc_is_told_without_a_password(home, text, line):
     """What is said may end up in a pipeline's log."""
@@ -223,6 +228,8 @@ def test_profiles_with_a_slip_are_told(home, text, said):
     assert end.value.status == WRONG
 
 
+@catches("indexctl/settings.py",
+         '''raise Stop(WRONG, f"{PROFILES} can't be read: {' '.join(str(end).split())}") from end''', "return {}")
 def test_a_file_of_profiles_that_can_t_be_read_is_told(home):
     """To say that no index is named would have a person write what is there."""
     (home / ".config" / "indexctl.ini").mkdir(parents=True)
@@ -247,6 +254,8 @@ def test_a_profile_without_an_address_is_told(home):
         settings.setting_of_profile("a")
 
 
+@catches("indexctl/settings.py", "if name and not profiles:", "if False:",
+         also=["indexctl/test_settings.py::test_a_profile_that_is_not_there_is_told_though_an_address_is_set"])
 def test_no_profile_at_all_is_told_with_what_to_do(home):
     with pytest.raises(Stop, match="No index is named. Set INDEX_URL") as end:
         settings.setting_of_profile(None)

@@ -14,6 +14,7 @@ from indexctl.standings import Standing
 from indexctl.units import SIX_WEEKS
 from package_index.names import read_file_name
 from support.indexctl.rows import CASE, OPENED, SETTING, case_of, held
+from support.planted import catches
 from support.unit import raises
 
 
@@ -21,6 +22,9 @@ def rows_of(capsys):
     return json.loads(capsys.readouterr().out)
 
 
+@catches("indexctl/commands/listings.py", "held_names(Desk(args).index), args.above)",
+         "held_names(Desk(args).index), args.above and 80.0)",
+         also=["indexctl/test_month.py::test_a_quota_is_near_its_end_from_the_percent_on_that_was_given"])
 def test_lists_have_their_rows(run, capsys):
     run.names = [held("a", shown="A", owners=["ann", "bob"], charge=800, case=case_of()), held("b", charge=1)]
     run("names", "--json")

@@ -12,6 +12,7 @@ from indexctl.ends import WRONG, Stop
 from indexctl.site import folder
 from indexctl.site.about import About
 from support.indexctl.rows import SETTING
+from support.planted import catches
 from support.unit import calls
 
 
@@ -29,6 +30,7 @@ def test_each_page_of_a_name_that_is_gone_is_removed(tmp_path):
     assert sorted(os.listdir(tmp_path)) == ["kept.html", "mine.txt"]
 
 
+@catches("indexctl/page.py", "if is_synced:", "if path:")
 def test_pages_are_not_synced_one_by_one(tmp_path, monkeypatch):
     monkeypatch.setattr(os, "fsync", lambda *_: pytest.fail("synced"))
     folder.put_changed(str(tmp_path / "x"), "a")
@@ -51,6 +53,8 @@ def test_what_was_kept_and_is_spoilt_is_left_out(tmp_path):
         assert kept == {}
 
 
+@catches("indexctl/site/folder.py", 'encoding="utf-8", errors="replace", opener=open_itself)',
+         'encoding="utf-8", errors="replace")')
 def test_a_link_in_the_place_of_what_was_kept_leads_nowhere(tmp_path):
     (tmp_path / "mine").write_text("mine")
     (tmp_path / ".wheels.json").symlink_to(tmp_path / "mine")
@@ -59,6 +63,7 @@ def test_a_link_in_the_place_of_what_was_kept_leads_nowhere(tmp_path):
     assert (tmp_path / "mine").read_text() == "mine"
 
 
+@catches("indexctl/site/folder.py", "if os.path.islink(inner):", "if os.path.islink(folder):")
 def test_a_link_in_the_place_of_the_pages_removes_no_others(tmp_path):
     (tmp_path / "mine").mkdir()
     (tmp_path / "mine" / "x.html").write_text("mine")
@@ -75,6 +80,8 @@ def test_without_a_folder_nothing_is_asked_for(tmp_path, monkeypatch):
     assert end.value.status == WRONG and not desks
 
 
+@catches("indexctl/commands/site.py", 'url = plain_url(parts_of_url(args.url, "--url")) if args.url else None',
+         'url = (parts_of_url(args.url, "--url") and args.url) if args.url else None')
 @pytest.mark.parametrize("url, shown", [
     ("https://bob:s3cret@h:8443/", "https://h:8443"), ("https://bob@h", "https://h"),
     ("https://[2001:db8::1]/", "https://[2001:db8::1]"), (None, SETTING.url)])
@@ -93,6 +100,7 @@ def test_a_folder_of_something_else_is_refused(tmp_path):
     assert os.listdir(tmp_path) == ["thesis.tex"]
 
 
+@catches("indexctl/site/folder.py", "if fcntl:", "if not fcntl:")
 def test_a_second_run_waits_for_the_first(tmp_path, monkeypatch):
     locked = []
     monkeypatch.setattr(folder.fcntl, "flock", lambda _, how: locked.append(how))

@@ -8,8 +8,11 @@ from indexctl.about import VERSION
 from indexctl.command_line import parsed
 from indexctl.ends import WRONG, Stop
 from support.indexctl.rows import held
+from support.planted import catches
 
 
+@catches("indexctl/command_line.py", "near = MEANT.get(found[1], near) if found and not noun else near", 'near = ""')
+@catches("indexctl/command_line.py", "near = MEANT.get(found[1], near) if found and not noun else near", "pass")
 @pytest.mark.parametrize("words, said", [
     ("claim x", "`indexctl name claim`?"), ("yank x 1", "`indexctl release yank`?"),
     ("nam claim x", "`indexctl name`?"), ("nmaes", "`indexctl names`?"),
@@ -26,6 +29,7 @@ def test_a_command_that_is_none_is_answered_by_one_that_is(capsys, words, said):
     assert end.value.code == 2 and "invalid choice" in told and told.endswith(f" Did you mean {said}\n"), told
 
 
+@catches("indexctl/command_line.py", "found.parser.error(", "self.error(")
 @pytest.mark.parametrize("words, said", [
     ("upload x --skip-existing", "--skip-existing. A file that is there with the same bytes is no error: leave it "
                                  "out."),
@@ -39,6 +43,7 @@ def test_an_option_that_is_none_is_told_by_the_command_s_own_usage(capsys, words
     assert end.value.code == 2 and told.startswith("usage: indexctl upload [-h]") and told.endswith(f"{said}\n"), told
 
 
+@catches("indexctl/command_line.py", "if found.plural and not any(", "if False and not any(")
 @pytest.mark.parametrize("words, found", [
     ("release yank frob --reason x 1.0", {"name": "frob", "releases": ["1.0"]}),
     ("files frob --json spam ham", {"names": ["frob", "spam", "ham"]})])
@@ -47,6 +52,7 @@ def test_further_words_may_stand_behind_an_option(words, found):
     assert {key: args[key] for key in found} == found
 
 
+@catches("indexctl/command_line.py", "elif rest:", "elif False:")
 @pytest.mark.parametrize("words", ["names frob", "status a b", "whoami x", "owner add a b --x", "help --x"])
 def test_a_word_too_much_is_refused(capsys, words):
     with pytest.raises(SystemExit) as end:
@@ -54,6 +60,10 @@ def test_a_word_too_much_is_refused(capsys, words):
     assert end.value.code == 2 and "unrecognized arguments" in capsys.readouterr().err
 
 
+@catches("indexctl/command_line.py", 'ALIASES = {"info": "status", "whoami": "token check"}',
+         'ALIASES = {"info": "who", "whoami": "token new"}',
+         ("indexctl/completion.py", "after[alias] = after[path]", "pass"),
+         also=["indexctl/test_completion.py::test_a_shell_completes_what_the_index_has[bash-an_alias]"])
 @pytest.mark.parametrize("alias, path", [("info frob", "status frob"), ("whoami", "token check"),
                                          ("whoami --json", "token check --json")])
 def test_a_word_that_people_know_is_the_command(alias, path):
@@ -78,6 +88,8 @@ def test_the_version_is_a_word_too(run, capsys):
     assert capsys.readouterr().out == f'indexctl {VERSION}\n{{"version": "{VERSION}"}}\n'
 
 
+@catches("indexctl/commands/listings.py", "if all(word in normal(it) for word in words)]",
+         "if any(word in normal(it) for word in words)]")
 @pytest.mark.parametrize("words, found", [
     ("fr", ["Frob", "frost-bite"]), ("FROST_B", ["frost-bite"]), ("bite fro", ["frost-bite"]), ("x", [])])
 def test_a_search_lists_the_names_that_have_each_word(run, capsys, words, found):
@@ -88,6 +100,8 @@ def test_a_search_lists_the_names_that_have_each_word(run, capsys, words, found)
     assert [row["name"] for row in json.loads(capsys.readouterr().out)] == found
 
 
+@catches("indexctl/commands/listings.py", '''note(f"No name has that.{did_you_mean('-'.join(words), known)}")''',
+         'note("No name has that.")')
 def test_a_search_for_a_misspelt_name_finds_what_was_meant(run, capsys):
     run.put("listed_names", lambda _: ["frob", "spam"])
     run.put("standings_of", lambda _, names: iter(names))
@@ -102,6 +116,8 @@ def test_what_is_near_to_nothing_gets_no_question(capsys, words):
     assert "Did you mean" not in capsys.readouterr().err
 
 
+@catches("indexctl/command_line.py", "add_common(common, argparse.SUPPRESS, argparse.SUPPRESS)",
+         "add_common(common, None, 6)")
 @pytest.mark.parametrize("words", ["--profile p --again 2 who x", "who --profile p x --again 2",
                                    "--profile other --again 5 who x --profile p --again 2"])
 def test_the_options_of_all_commands_stand_before_or_behind(words):
@@ -116,12 +132,19 @@ def told(run, *words):
     return str(end.value)
 
 
+@catches("indexctl/commands/listings.py", "    size_of(args.size)", "    args.size.strip()")
 @pytest.mark.parametrize("size", ["5GB5", "-1", "+", "x"])
 def test_a_slip_in_a_size_is_told_before_the_index_is_asked(run, size):
     run.put("find_standing", lambda *_: pytest.fail("asked"))
     assert "is not a size" in told(run, "quota", "set", "frob", size)
 
 
+@catches("indexctl/names.py", "number & 0xFFFE == 0xFFFE or 0xFDD0 <= number <= 0xFDEF", "number == 0xFFFE")
+@catches("indexctl/commands/releases.py", "if size > MOST_TEXT:", "if size > MOST_TEXT + 1:")
+@catches("indexctl/commands/releases.py", 'if any(unicodedata.category(it) == "Cc" for it in text):',
+         'if any(unicodedata.category(it) == "Cs" for it in text):')
+@catches("indexctl/names.py", "if not is_text(text):", "if not texts:",
+         also=["test_bytes_of_a_case_that_are_no_text_are_told"])
 @pytest.mark.parametrize("reason, said", [("x" * 513, "512 bytes at most, and this one has 513"),
                                           ("\u00e9" * 257, "has 514"), ("a\nb", "is one line"), ("a\tb", "is one line"),
                                           ("a\x85", "is one line"), ("gr\udcf6", "no text in the coding of your"),
@@ -153,12 +176,14 @@ def test_gaps_about_what_names_a_release_are_passed_over(run):
     assert [(row["name"], row["release"]) for row in rows] == [("frob", "1.0"), ("spam", "2")]
 
 
+@catches("indexctl/commands/releases.py", "if not pairs or not all(", "if not pairs and all(")
 @pytest.mark.parametrize("words", ["frob", "frob==", "frob==1.0 spam", "frob spam==1.0", "frob==1.0 1.1", "frob===1.0"])
 @pytest.mark.parametrize("verb", ["yank", "unyank", "delete"])
 def test_a_release_that_is_not_named_is_told(run, verb, words):
     assert "Name a release: `frob 1.0`" in told(run, "release", verb, *words.split())
 
 
+@catches("indexctl/names.py", r'return re.split(r"[/\\]", text)[-1]', "return text")
 @pytest.mark.parametrize("path", ["dist/frob-1.0.tar.gz", "C:\\dist\\frob-1.0.tar.gz", "./frob-1.0.tar.gz",
                                   "https://packages.example/files/frob/frob-1.0.tar.gz"])
 @pytest.mark.parametrize("verb, do", [("delete", "delete"), ("ban", "ban_file")])
@@ -166,6 +191,7 @@ def test_a_file_may_be_named_by_its_path(run, verb, do, path):
     assert run.asked("file", verb, path) == [{"do": do, "file": "frob-1.0.tar.gz"}]
 
 
+@catches("indexctl/commands/checks.py", 'if caller == "unknown":', 'if caller == "x":')
 def test_an_address_of_several_indexes_tells_of_no_token(run):
     run.desk.is_caller = "unknown"
     with pytest.raises(Stop, match="leads to several indexes, each with users of its own"):
@@ -179,11 +205,14 @@ def test_bytes_of_a_case_that_are_no_text_are_told(run, option):
     assert "no text in the coding of your locale" in said
 
 
+@catches("indexctl/uploads.py", "if not os.path.exists(path):", "if not path:")
 @pytest.mark.parametrize("path", ["dits/", "dits", "frob-1.0.tar.gz", "none.whl"])
 def test_what_is_not_there_is_told_as_such(run, tmp_path, path):
     assert "there is no such file or folder" in told(run, "upload", f"{tmp_path}/{path}")
 
 
+@catches("indexctl/commands/names.py", "others = [it for it in find_standing(index, name).owners if it != user]",
+         "others = [it for it in find_standing(index, name).owners if it]")
 def test_who_stays_is_shown_before_an_owner_is_taken_off(run):
     run.names = [held("frob", owners=["ann", "bob", "eve"]), held("spam", owners=["ann"])]
     assert run("owner", "remove", "ann", "frob", "spam") == 0
@@ -192,6 +221,7 @@ def test_who_stays_is_shown_before_an_owner_is_taken_off(run):
     assert [row["do"] for row in run.desk.asked] == ["remove_owner"] * 2
 
 
+@catches("indexctl/commands/users.py", "if not desk.status():", "if desk.status():")
 def test_what_stops_by_another_token_is_named(run, capsys):
     assert run("user", "rotate", "cibuild") == 0
     assert "such as a pipeline of cibuild" in capsys.readouterr().err

@@ -8,6 +8,7 @@ import pytest
 from indexctl import standings
 from indexctl.ends import REFUSED, UNREACHED, WRONG, Stop
 from support.indexctl.rows import CASE, FakeIndex, reply
+from support.planted import catches
 
 HELD = {"name": "frob", "state": "held", "shown": "Frob", "owners": ["ann"], "quota": 5, "charge": 3, "case": None}
 MOST = 1 << 60
@@ -19,6 +20,7 @@ def test_a_number_is_whole_and_not_too_large(value, is_number):
     assert standings.is_number(value) == is_number
 
 
+@catches("indexctl/standings.py", "not isinstance(name, str) or not is_name(name) or", "not isinstance(name, str) or")
 @pytest.mark.parametrize("changed", [
     {"name": 1}, {"name": None}, {"name": ""}, {"name": "../a"}, {"name": "a/b"}, {"name": "a\n"}, {"state": "sold"},
     {"state": None}, {"shown": None}, {"owners": "ann"}, {"owners": ["ann", 1]}, {"owners": None},
@@ -87,6 +89,8 @@ def test_a_page_of_another_form_is_no_answer(status, value):
         standings.find_page(FakeIndex(as_reply(status, value)), "/simple/", "projects", "name")
 
 
+@catches("indexctl/standings.py", "isinstance(it.get(key), str) and is_text(it[key]) for",
+         "isinstance(it.get(key), str) for")
 @pytest.mark.parametrize("name", ["\ud800", "a\udfffb"])
 def test_a_name_that_is_no_text_is_no_name_of_an_index(name):
     with pytest.raises(Stop, match="This is no answer of an index"):
@@ -109,6 +113,8 @@ def test_what_is_asked_side_by_side_comes_in_order():
     assert list(side_by_side(lambda it: it, [])) == []
 
 
+@catches("indexctl/standings.py", "while due not in found:", "while not found:",
+         ("indexctl/standings.py", "yield from found.pop(due)", "yield from found.pop(min(found))"))
 def test_what_is_answered_late_comes_in_its_place():
     later = threading.Event()
 
@@ -126,6 +132,7 @@ def test_eight_are_asked_at_once():
     assert len(list(side_by_side(lambda _: together.wait(), list(range(8))))) == 8
 
 
+@catches("indexctl/standings.py", "if end:", "if end and (starts.empty() or given.put((at, results, end))):")
 def test_the_first_failure_ends_a_walk():
     """No other item is waited for."""
     over, answered = threading.Event(), []
@@ -181,11 +188,15 @@ def test_what_nginx_keeps_is_good_enough_if_no_fresh_page_is_asked_for():
     assert [dict(it.headers) for it in index.asked] == [{"Accept": "application/vnd.pypi.simple.v1+json"}]
 
 
+@catches("indexctl/standings.py", "function(items[at:at + length]), None))",
+         "function(items[at:at + max(1, length - 1)]), None))", case="1000",
+         also=["test_a_long_walk_comes_whole_and_in_order[5003]"])
 @pytest.mark.parametrize("count", [1, 31, 32, 33, 64, 65, 1_000, 5_003])
 def test_a_long_walk_comes_whole_and_in_order(count):
     assert list(side_by_side(lambda it: -it, list(range(count)))) == [-it for it in range(count)]
 
 
+@catches("indexctl/standings.py", "while due not in found:", "while len(found) < len(range(due, len(items), length)):")
 def test_what_is_asked_side_by_side_comes_before_all_was_asked():
     last = threading.Event()
     found = side_by_side(lambda it: it < 19 or last.wait(60), list(range(20)))
@@ -208,6 +219,10 @@ def test_names_of_the_list_come_in_its_order():
     assert (index.glanced, [it.path for it in index.asked]) == (["/names/a", "/names/b", "/names/c"], ["/names/b"])
 
 
+@catches("indexctl/standings.py", 'is_own = found and is_standing(found) and found["name"] == normal(name)',
+         "is_own = found and is_standing(found)")
+@catches("indexctl/standings.py", 'is_own = found and is_standing(found) and found["name"] == normal(name)',
+         'is_own = found and found.get("name") == normal(name)')
 @pytest.mark.parametrize("seen", [
     json.dumps({**HELD, "name": "other"}).encode(), json.dumps({**HELD, "quota": -1}).encode(), b"{}", b"[]", b"",
     None])

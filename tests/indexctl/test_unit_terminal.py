@@ -11,6 +11,7 @@ from indexctl import terminal
 from indexctl.ends import WRONG, Stop
 from indexctl.quotas import QuotaRow
 from support.indexctl.rows import args
+from support.planted import catches
 from support.unit import with_time
 
 
@@ -111,6 +112,7 @@ def test_progress_fits_the_terminal_and_counts_nothing_as_nothing(monkeypatch):
     assert stream.getvalue().startswith(f"\r{'n' * 39}\033[K")
 
 
+@catches("indexctl/terminal.py", "self.is_watched = is_watched()", "self.is_watched = sys.stderr.isatty()")
 def test_a_terminal_that_moves_no_cursor_shows_no_progress(monkeypatch):
     stream, _ = Tty(), Clock(monkeypatch)
     monkeypatch.setattr(sys, "stderr", stream)

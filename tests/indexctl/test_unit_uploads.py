@@ -13,6 +13,7 @@ from indexctl import uploads
 from indexctl.ends import WRONG, Stop
 from indexctl.terminal import say_row
 from indexctl.uploads import File
+from support.planted import catches
 
 TEXT = "Metadata-Version: 2.1\nName: Frob\nVersion: 1.0\n"
 
@@ -130,6 +131,7 @@ def test_a_name_of_another_kind_is_refused(name):
     assert end.value.status == WRONG
 
 
+@catches("indexctl/uploads.py", "if self.name.endswith(OTHER_ARCHIVES):", "if False:")
 @pytest.mark.parametrize("name", ["frob-1.0.zip", "frob-1.0-py3.8.egg", "frob-1.0.tar.bz2", "frob-1.0.tar.xz"])
 def test_of_another_archive_it_is_told_what_the_index_takes(name):
     with pytest.raises(Stop, match=r"takes .whl and .tar.gz alone. `python3 -m build` makes both.") as end:
@@ -137,6 +139,11 @@ def test_of_another_archive_it_is_told_what_the_index_takes(name):
     assert end.value.status == WRONG
 
 
+@catches("indexctl/uploads.py",
+         'if not self.is_wheel and self.shown and self.project.startswith(f"{normal(self.shown)}-"):', "if False:",
+         ("server/bin/index-legacy-upload",
+          'if said and not self.file.endswith(".whl") and self.project.startswith(f"{normal(said)}-"):', "if False:"),
+         also=["clients/test_uploads_by_forms.py::test_a_form_is_refused_and_the_index_is_not_asked"])
 def test_of_a_version_with_a_hyphen_it_is_told_how_to_write_it(tmp_path):
     """setuptools wrote such names: a new build of the same version would have the same."""
     with pytest.raises(Stop, match="its version has a hyphen.*such as 1.0b1 for 1.0-beta1"):
@@ -192,6 +199,8 @@ def test_metadata_that_is_no_text_is_told(tmp_path):
         uploads.files_of([str(tmp_path)])
 
 
+@catches("indexctl/uploads.py", '''raise Stop(WRONG, f"{path}: it can't be read''',
+         '''raise Stop(WRONG, f"A file: it can't be read''')
 @pytest.mark.parametrize("compression", [zipfile.ZIP_DEFLATED, zipfile.ZIP_BZIP2, zipfile.ZIP_LZMA])
 def test_of_several_files_the_damaged_one_is_named(tmp_path, compression):
     wheel(tmp_path)
@@ -206,6 +215,9 @@ def test_of_several_files_the_damaged_one_is_named(tmp_path, compression):
     assert end.value.status == WRONG
 
 
+@catches("indexctl/archives.py",
+         'with Unpacked(fileobj=data) as unpacked, tarfile.open(fileobj=cast(IO[bytes], unpacked), mode="r:") '
+         "as archive:", "with tarfile.open(fileobj=data) as archive:")
 @pytest.mark.parametrize("mode", ["w", "w:bz2", "w:xz"])
 def test_a_source_archive_that_is_not_compressed_by_gzip_is_refused(tmp_path, mode):
     """pip would not open it, and its name would be bound to these bytes for good."""
@@ -217,6 +229,7 @@ def test_a_source_archive_that_is_not_compressed_by_gzip_is_refused(tmp_path, mo
         uploads.files_of([str(tmp_path)])
 
 
+@catches("indexctl/uploads.py", "if hashlib.sha256(data).hexdigest() != self.digest:", "if not self.digest:")
 @pytest.mark.parametrize("how", [os.remove, lambda path: os.truncate(path, 100), lambda path: os.truncate(path, 9_999)],
                          ids=["gone", "shorter", "longer"])
 def test_a_file_that_changed_since_it_was_checked_does_not_go_out(tmp_path, how):

@@ -8,6 +8,7 @@ from contextlib import closing
 
 import pytest
 from support.indexctl.control import Control
+from support.planted import catches
 from support.serving import Index, make_index
 
 NAMES = 10_000
@@ -33,6 +34,8 @@ def spent() -> float:
     return used.ru_utime + used.ru_stime
 
 
+@catches("indexctl/standings.py", 'names, "names") if it.state == "held")',
+         'names, "names") if it.state == "held" and not it.name.endswith("7"))')
 @pytest.mark.slow
 @pytest.mark.timeout(400)
 def test_ten_thousand_names_come_in_order_and_cost_little(program, open_folder, certificate, looked):

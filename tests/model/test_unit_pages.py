@@ -4,6 +4,7 @@ import re
 import pytest
 from support.model.pages import HTML, JSON_1, Listed, page_of_files, page_of_names
 from support.places import TOP
+from support.planted import catches
 from support.serving import sha256
 
 BROKEN = Listed("frob-1.0.tar.gz", "1.0", sha256(b"abc"), 3, ">=3.8", "broken")
@@ -16,6 +17,7 @@ def blocks(page):
         return re.findall(r"^```\n(.*?)^```$", kept.read(), re.S | re.M)
 
 
+@catches("tests/support/model/pages.py", 'data-yanked="{escaped(listed.yank)}"', 'data-yank="{escaped(listed.yank)}"')
 @pytest.mark.parametrize("kind,end", [(HTML, ""), (JSON_1, "\n")], ids=("HTML", "JSON"))
 def test_the_pages_of_the_page_of_docs(kind, end):
     names = page_of_names([("frob-nest", "Frob._-Nest")], kind)

@@ -11,6 +11,7 @@ import sys
 import pytest
 from support.needed import want_command, want_commands_of
 from support.places import TOP
+from support.planted import catches
 from support.running import run_command
 
 PYTHON, BASH = sys.executable, shutil.which("bash") or "bash"
@@ -81,6 +82,11 @@ def answers(tmp_path, looked):
     return answer
 
 
+@catches("tools/package", 'if not told.startswith("index "):', "if not told:",
+         case="tools/package --program /bin/true-is not the index: its --version is")
+@catches("tools/release", "if not os.path.isdir(above) or not os.access(above, os.W_OK | os.X_OK):",
+         "if not os.path.lexists(above):",
+         case="tools/release 9.9.9 --out {file}/new-is not a folder that you may write to")
 @pytest.mark.parametrize("line, said", MISTAKES)
 def test_a_mistake_is_answered_in_one_sentence(answers, line, said):
     want_commands_of(line)

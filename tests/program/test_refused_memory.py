@@ -8,6 +8,7 @@ and gets its verdict, and the tables are those of what was accepted."""
 import pytest
 from support.judge import Judge, copy_index
 from support.old_version import make_old_version
+from support.planted import catches
 from support.refused import (ASKED, FAULT, KEPT, KEPT_BYTES, NO_MEMORY, Refusing, all_lines, is_end, stored_run,
                              users_and_frob)
 from support.running import kill_after, run
@@ -96,6 +97,8 @@ def test_the_stored_run_answers_its_lines_or_ends(refusing, share, is_in_memory,
             refusing.is_kept(name, kept)
 
 
+@catches("tests/support/refusals.py", "= 0, number, 0", "= 0, 0, 0", case="share-0",
+         also=["test_what_reads_alone_changes_no_row[check-share-0]"])
 @pytest.mark.slow
 @SHARED
 def test_init_makes_an_index_or_none(refusing, share, end, looked):

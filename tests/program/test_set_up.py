@@ -9,6 +9,7 @@ import pytest
 from support.debian_wheels import upload_all
 from support.inner_runs import copy_rooms
 from support.needed import want_module
+from support.planted import catches
 from support.running import write_below
 
 # what `tests/run` does first, where Debian's Python has no pytest either
@@ -33,6 +34,7 @@ def run(copy: str, url: str) -> subprocess.CompletedProcess:
                                "PIP_NO_CACHE_DIR": "1", "PATH": f"{copy}/bare/bin:{os.environ['PATH']}"})
 
 
+@catches("tests/support/set_up.py", '"-m", "venv", "--clear", OWN]', '"-m", "venv", "--without-pip", OWN]')
 @pytest.mark.slow
 @pytest.mark.timeout(900)
 def test_a_user_without_pytest_gets_it_by_pip_once(index, tmp_path, looked):

@@ -9,10 +9,13 @@ import pytest
 import top
 from pages import changes, files
 from support.places import TOP
+from support.planted import catches
 from support.running import run_command, write_below
 from trial import parser_of
 
 
+@catches("tools/lib/top.py", 'for it in sorted(names) if it[0] != "."]', "for it in sorted(names)]")
+@catches("tools/lib/top.py", '"__pycache__") and it[0] != ".")', '"__pycache__"))')
 def test_what_is_no_file_of_the_repository_is_not_looked_at(tmp_path, monkeypatch):
     """A lock of an editor leads nowhere."""
     for path in ("docs/A.md", "docs/out/B.md", ".venv/C.md", "tools/d", "tools/.d", "try/E.md", "tools/__pycache__/f"):
@@ -24,6 +27,7 @@ def test_what_is_no_file_of_the_repository_is_not_looked_at(tmp_path, monkeypatc
     assert top.files_below("tools") == ["tools/d"] and top.files_below("") == ["docs/A.md", "tools/d"]
 
 
+@catches("tools/lib/trial.py", 'sys.stdout.reconfigure(errors="backslashreplace")', "pass")
 def test_what_the_locale_lacks_is_printed_as_an_escape():
     """As by LC_ALL=de_DE, which is Latin-1."""
     prints = "from trial import parser_of; parser_of('a', has_program=False); print('\u2261')"
@@ -31,6 +35,7 @@ def test_what_the_locale_lacks_is_printed_as_an_escape():
     assert (ended.returncode, ended.stdout) == (0, "\\u2261\n")
 
 
+@catches("tools/lib/trial.py", "if isinstance(sys.stdout, io.TextIOWrapper):", "if True:")
 def test_no_output_is_needed(monkeypatch):
     monkeypatch.setattr(sys, "stdout", None)
     assert parser_of("a", has_program=False)
@@ -42,6 +47,7 @@ def a_section(new=("1. New.",), first="### What you do first, as an operator\n\n
     return f"### What is new for you, as a user\n\n{lines}\n{first}\n{more}"
 
 
+@catches("tools/lib/pages/changes.py", "if not found:", "if not text:")
 @pytest.mark.parametrize("text,count", [
     (a_section(), 0),
     (a_section(new=[f"{at}. New." for at in range(1, 6)]), 0),

@@ -13,10 +13,12 @@ import pytest
 from support.durations import name_of, write
 from support.inner_runs import run_tests
 from support.places import TOP
+from support.planted import catches
 from support.programs import program_of
 from support.running import run_command
 
 
+@catches("tests/conftest.py", 'given.get("dist") == "loadgroup"', "False")
 def test_tests_of_a_group_go_to_one_worker():
     """xdist then writes the group behind the name of a test."""
     test = "tests/indexctl/test_pythons.py::test_the_version_is_that_of_the_newest_changes"
@@ -24,17 +26,21 @@ def test_tests_of_a_group_go_to_one_worker():
     assert ended.status == 0 and f"PASSED {test}@pythons" in ended.said, ended.said
 
 
+@catches("tests/support/durations.py", r'return re.sub(r"@[^@\]]+$", "", test)', "return test")
 @pytest.mark.parametrize("name", ["test_a.py::test_b", "test_a.py::test_b[c@d]", "test_a.py::test_b[c-d@e.f]"])
 def test_how_long_a_test_took_is_kept_by_its_name_alone(name):
     assert name_of(f"{name}@group") == name_of(name) == name
 
 
+@catches("tests/support/durations.py", "with suppress(OSError):", "if True:")
+@catches("tests/support/durations.py", "made.unlink(missing_ok=True)", "pass")
 def test_times_that_can_not_be_kept_end_no_run(tmp_path):
     (tmp_path / "parts.json").mkdir()
     write(tmp_path / "parts.json", {"tests": 1.0})
     assert os.listdir(tmp_path) == ["parts.json"]
 
 
+@catches("tests/run", "with suppress(OSError):", "if True:")
 def test_without_git_the_gate_has_its_first_turn(monkeypatch, capfd):
     gate = program_of(f"{TOP}/tests/run")
     monkeypatch.setenv("GIT_DIR", "/none")
@@ -43,6 +49,7 @@ def test_without_git_the_gate_has_its_first_turn(monkeypatch, capfd):
     assert gate.commits() == 1 and capfd.readouterr() == ("", "")
 
 
+@catches("tests/run", '"-c", f"safe.directory={TOP}", "-C"', '"-C"')
 @pytest.mark.skipif(os.geteuid() != 0, reason="only root may give a repository to another user")
 def test_the_turns_go_on_in_the_repository_of_another_user(monkeypatch, tmp_path):
     """As in a container, where git else refuses to look at it."""
@@ -56,6 +63,7 @@ def test_the_turns_go_on_in_the_repository_of_another_user(monkeypatch, tmp_path
     assert gate.commits() == 2
 
 
+@catches("tests/run", "signal.signal(signal.SIGPIPE, signal.SIG_DFL)", "pass")
 def test_a_list_of_the_gate_that_is_cut_off_ends_without_a_word():
     """As by `tests/run --list | head`."""
     read_end, write_end = os.pipe()
@@ -86,6 +94,7 @@ KIT = """class rtlib:
 """
 
 
+@catches("tools/try-edits", "self.rt, self.log = rt,", "tempfile.mkdtemp(); self.rt, self.log = rt,")
 def test_wrong_bodies_whose_log_can_not_be_written_leave_no_folder(tmp_path):
     for folder in ("bin", "temporary", "log"):
         (tmp_path / folder).mkdir()
@@ -145,6 +154,9 @@ while True:
 """
 
 
+@catches("tools/lib/children.py", "if signal.getsignal(it) is not signal.SIG_IGN]", "if it]", case="words1",
+         also=["server/test_unit_packages.py::test_what_nohup_began_goes_on_after_a_hang_up"])
+@catches("tests/run", "if signal.getsignal(number) is not signal.SIG_IGN:", "if number:", case="words0")
 @pytest.mark.parametrize("words", [("-W", "ignore", "-c", GATE, "at once"), ("-c", TOOL)])
 def test_what_nohup_began_is_not_ended_by_a_hang_up(words):
     words = ["nohup", sys.executable, "-B", *words]

@@ -15,6 +15,7 @@ from support import set_up
 from support.inner_runs import copy_rooms
 from support.needed import left_out
 from support.places import TOP
+from support.planted import catches
 from support.programs import program_of
 from support.running import run_command, write_below
 
@@ -25,6 +26,8 @@ THERE = {"systemd", "util-linux", "python3-keyring"}
 BY_HAND = {"debootstrap"}
 
 
+@catches("tests/support/set_up.py", '"lintian": "lintian",', "")
+@catches("tests/support/set_up.py", '"nftables": "nft",', "")
 def test_each_package_that_a_test_asks_for_is_installed():
     asked = set()
     for path in glob.glob(f"{TOP}/tests/**/*.py", recursive=True):
@@ -35,6 +38,8 @@ def test_each_package_that_a_test_asks_for_is_installed():
     assert not asked - set_up.QUICK.keys() - set_up.SLOW.keys() - THERE - BY_HAND - {"prometheus"}
 
 
+@catches("tests/support/set_up.py", '(os.path.exists(shows) if shows[0] == "/" else shutil.which(shows))',
+         '(shows[0] == "/" or shutil.which(shows))')
 def test_a_package_is_there_by_its_command_its_file_or_its_module(tmp_path):
     (tmp_path / "file").touch()
     there = {"a": "sh", "b": f"{tmp_path}/file", "c": "import json"}
@@ -60,6 +65,7 @@ def bare(tmp_path, monkeypatch):
     return tmp_path
 
 
+@catches("tests/support/set_up.py", "and len(packages) > 1:", "and len(packages) > 9:")
 def test_packages_are_installed_together_and_one_by_one_if_that_fails(bare, capsys):
     set_up.install_missing(is_quick=True)
     asked = (bare / "asked").read_text().splitlines()
@@ -70,6 +76,7 @@ def test_packages_are_installed_together_and_one_by_one_if_that_fails(bare, caps
     assert "  E: Unable to locate package rare\n" in said and said.endswith("still missing: plain rare\n")
 
 
+@catches("tests/support/set_up.py", "elif lacks and is_gate():", "elif not lacks and is_gate():")
 def test_a_user_goes_on_with_what_is_there_and_in_the_gate_is_told_how_to_get_it(bare, monkeypatch):
     monkeypatch.setattr(os, "geteuid", lambda: 1000)
     set_up.install_missing(is_quick=True)
@@ -112,6 +119,8 @@ def goes_on(monkeypatch):
     return go_on
 
 
+@catches("tests/support/set_up.py", 'shutil.which("python3") or DEBIAN, DEBIAN, own)), "")',
+         'shutil.which("python3") or DEBIAN, DEBIAN)), "")')
 def test_a_run_goes_on_by_a_python_that_has_pytest(goes_on, monkeypatch):
     monkeypatch.setattr(set_up.shutil, "which", lambda name: "/active/python3")
     own = f"{set_up.OWN}/bin/python"
@@ -132,6 +141,7 @@ CACHE = "#!/bin/sh\necho '  Depends: linux-image-6'\n"
 DPKG = "#!/bin/sh\n[ $# = 2 ] && exec cat \"$2\"\n"
 
 
+@catches("tests/support/set_up.py", "shutil.rmtree(part, ignore_errors=True)", "pass")
 def test_a_kernel_that_a_killed_run_was_unpacking_is_unpacked_by_the_next(tmp_path, monkeypatch):
     for name, text in (("apt-get", APT_OF_KERNEL), ("apt-cache", CACHE), ("dpkg-deb", DPKG)):
         write_below(tmp_path, f"bin/{name}", text)
@@ -144,6 +154,8 @@ def test_a_kernel_that_a_killed_run_was_unpacking_is_unpacked_by_the_next(tmp_pa
     assert sorted(os.listdir(tmp_path / "out/kernel")) == ["boot", "lib"]
 
 
+@catches("tests/support/set_up.py", 'if made.is_dir() or not shutil.which("apt-cache"):',
+         'if not shutil.which("apt-cache"):')
 def test_promtool_is_unpacked_once_and_its_server_is_not(tmp_path, monkeypatch):
     made = ("mkdir -p usr/bin && touch usr/bin/promtool usr/bin/prometheus && "
             "tar -cf prometheus_2_amd64.deb ./usr && rm -r usr")
@@ -160,6 +172,8 @@ def test_promtool_is_unpacked_once_and_its_server_is_not(tmp_path, monkeypatch):
     assert (tmp_path / "calls").read_text() == "\n"
 
 
+@catches("tests/support/needed.py", r"is not installed: package (\S+) of Debian has it$",
+         r"is not installed: a package (\S+) of Debian has it$")
 def test_what_was_left_out_is_counted_by_packages_and_by_reasons():
     reasons = {f"{name} is not installed: package {package} of Debian has it": count for name, package, count in
                (("nginx", "nginx-light", 2), ("chromium", "chromium", 1), ("openssl", "openssl", 4))}
@@ -188,6 +202,9 @@ def test_c():
 """
 
 
+@catches("tests/conftest.py", "if not skips.may_be_skipped(report.longrepr[0], reason):", "if not reason:",
+         case="gate0")
+@catches("tests/conftest.py", "if is_gate() and report.skipped", "if report.skipped", case="gate1")
 @pytest.mark.parametrize("gate", [{"CI": "true"}, {"CI": ""}])
 def test_in_the_gate_a_test_fails_that_is_skipped_for_another_reason_than_those_of_the_list(tmp_path, gate):
     copy = copy_rooms(str(tmp_path))
@@ -201,6 +218,7 @@ def test_in_the_gate_a_test_fails_that_is_skipped_for_another_reason_than_those_
     assert ("  1: unknown" in lines) == (not gate["CI"]) and "  1: known: 3" in lines
 
 
+@catches("tools/lib/skips.py", 'if name in ("skip", "skipif", "importorskip"):', 'if name in ("skip", "importorskip"):')
 def test_each_skip_of_a_test_has_a_line(monkeypatch):
     rows = [("a.py", "this machine *"), ("a.py", "more: only root *"), ("b.py", "x")]
     monkeypatch.setattr(skips, "rows", lambda: rows)
@@ -211,6 +229,7 @@ def test_each_skip_of_a_test_has_a_line(monkeypatch):
     assert len(skips.unknown_skips("c.py", tree)) == 5 and skips.idle_rows({"a.py": tree}) == ["b.py"]
 
 
+@catches("tests/run", "style.words, style.status = [], 0", "style.status = 0")
 def test_a_run_by_a_user_leaves_out_what_checks_style_without_its_linters(monkeypatch):
     gate = program_of(f"{TOP}/tests/run")
     monkeypatch.setattr(gate.shutil, "which", lambda name: None if name == "mypy" else f"/usr/bin/{name}")

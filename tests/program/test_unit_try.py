@@ -12,6 +12,7 @@ from pathlib import Path
 
 import pytest
 from support.places import TOP
+from support.planted import catches
 from support.programs import program_of
 from support.running import goes_on as runs
 from support.running import write_below
@@ -39,6 +40,7 @@ def clone(tmp_path: Path) -> Path:
     return made
 
 
+@catches("tools/try", "signal.signal(it, signal.default_int_handler)", "pass", case="TERM")
 @pytest.mark.parametrize("name", ["INT", "TERM", "HUP"])
 def test_a_trial_that_is_ended_serves_no_longer(clone, name):
     words, serves = [sys.executable, f"{clone}/tools/try"], clone.parent / "serves"
@@ -50,6 +52,7 @@ def test_a_trial_that_is_ended_serves_no_longer(clone, name):
     assert command.returncode == 130 and wrong.strip().startswith("interrupted: what is built is kept")
 
 
+@catches("tools/try", "with held():", "if True:")
 def test_a_signal_that_comes_as_the_server_starts_ends_it(clone, monkeypatch):
     trial, started = program_of(f"{TOP}/tools/try"), []
 
@@ -65,6 +68,7 @@ def test_a_signal_that_comes_as_the_server_starts_ends_it(clone, monkeypatch):
     assert [it.poll() is not None for it in started] == [True]
 
 
+@catches("tools/try", "if is_whole and not is_new:", "if False:")
 @pytest.mark.parametrize("words, whole, goes_on, said", [
     ([], True, True, "has the index of an earlier call, and goes on with it; --new makes another"),
     (["--new"], True, False, "which an earlier call has made"),
@@ -80,6 +84,8 @@ def test_a_trial_goes_on_with_an_earlier_index_or_says_what_it_removes(tmp_path,
     assert trial.goes_on(tmp_path / "another", is_new=False) is False and capsys.readouterr().out == ""
 
 
+@catches("tools/try", '''python3 {short(TOP / 'indexctl')}"''', 'python3 -m indexctl"')
+@catches("tools/try", "return shlex.quote(os.path.relpath(path))", "return os.path.relpath(path)")
 def test_the_last_lines_hold_in_the_folder_where_the_trial_was_called(monkeypatch, tmp_path):
     monkeypatch.chdir(tmp_path)
     monkeypatch.setattr(sys, "path", [*sys.path])
@@ -109,6 +115,7 @@ def build(top, target, **more):
 """
 
 
+@catches("tools/try", "stamp.unlink(missing_ok=True)", "pass")
 def test_what_a_build_that_failed_left_is_not_taken_for_the_program(clone):
     """Also if the sources are again those of the program that it took the place of."""
     os.remove(clone / "crates/index/out/index")

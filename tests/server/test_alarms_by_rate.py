@@ -7,6 +7,7 @@ import time
 import pytest
 from support.library import followed
 from support.places import BIN, SERVER
+from support.planted import catches
 from support.running import run_command
 from support.server.expected import assert_ends
 from support.server.stand_ins import called, stand_ins
@@ -73,6 +74,9 @@ def watched(folder):
     return made
 
 
+@catches("server/bin/index-alarms", "return ALARM if new or again or over(state, kept) else 0",
+         "return ALARM if kept.raised else 0")
+@catches("server/bin/index-alarms", "at if 0 <= now.at - at < DAY else now.at", "at")
 @pytest.mark.told("a disk is full within 7 days")
 def test_a_disk_that_fills_is_told_once_a_day(watched):
     def fills(state):
@@ -128,6 +132,8 @@ def at(seconds_ago):
     return time.strftime("%Y-%m-%dT%H:%M:%S+00:00", time.gmtime(time.time() - seconds_ago))
 
 
+@catches("server/bin/index-alarms", "return ALARM if new or again or over(state, kept) else 0",
+         "return ALARM if new else 0")
 def test_a_failed_change_is_told_once_and_that_it_is_over(watched):
     """Each look reads on from where the last one was."""
     log = f"{watched.folder}/changes.log"
@@ -150,6 +156,8 @@ def test_a_failed_change_is_told_once_and_that_it_is_over(watched):
 STATES = "Id={}\\nUnitFileState=enabled\\nActiveState={}\\nResult=success\\n\\n"
 
 
+@catches("server/lib/package_index/watched.py", 'it.get("ActiveState") == "inactive"',
+         'it.get("ActiveState") == "dead"')
 @pytest.mark.told("`index-uncache-follow` or a timer of the index")
 def test_what_watches_and_was_stopped_is_told(watched):
     states = STATES.format("index-health.timer", "inactive") + STATES.format("index-backup.timer", "active")
@@ -159,6 +167,7 @@ def test_what_watches_and_was_stopped_is_told(watched):
     assert "UnitFileState,ActiveState index-health.timer" in called(f"{watched.folder}/bin")
 
 
+@catches("server/lib/package_index/watched.py", 'said.append(f"over: {unit} is well again")', "pass")
 def test_a_unit_that_failed_and_is_well_again_is_told_once(watched):
     stamp = watched.put("failed/index-health.service-9-77", "")
     states = STATES.format("index-health.service", "inactive")
@@ -184,6 +193,7 @@ def test_a_log_that_nginx_does_not_write_is_told(watched):
     assert "\nReadWritePaths=-/run/index-alarm\n" in text
 
 
+@catches("server/bin/index-alarms", '("behind", looks.behind', '("behind", () and looks.behind')
 def test_a_follower_that_stays_behind_is_told(watched):
     old, new = (json.dumps({"at": at(it), "status": 200}) + "\n" for it in (600, 180))
     log = watched.put("changes.log", old)
@@ -197,6 +207,7 @@ def test_a_follower_that_stays_behind_is_told(watched):
                 "banned since. systemctl restart index-uncache-follow")
 
 
+@catches("server/bin/index-alarms", "except (ValueError, KeyError, TypeError) as end:", "except KeyError as end:")
 def test_a_state_that_can_not_be_read_is_told_and_begun_again(watched):
     with open(watched.state, "w") as made:
         made.write('{"begun": 1')
@@ -204,6 +215,7 @@ def test_a_state_that_can_not_be_read_is_told_and_begun_again(watched):
     assert watched.run().stdout == "" and len(watched.kept()["day"]) == 2
 
 
+@catches("server/bin/index-alarms", 'return kept.read().strip().replace("-", "")', "return kept.read().strip()")
 def test_a_start_of_the_machine_is_as_systemd_names_it(watched):
     """So that --boot of the unit and the program's own are the same."""
     with open("/proc/sys/kernel/random/boot_id") as kept:
@@ -212,6 +224,8 @@ def test_a_start_of_the_machine_is_as_systemd_names_it(watched):
     assert [it[1] for it in watched.kept()["day"]] == [boot, "0" * 32]
 
 
+@catches("server/bin/index-alarms", "kept = [it for it in state.day if 0 <= now.at - it.at <= DAY]",
+         "kept = [*state.day]")
 def test_looks_of_more_than_a_day_ago_are_forgotten(watched):
     def ages(state):
         state["day"][0][0] -= DAY + 60
@@ -221,6 +235,7 @@ def test_looks_of_more_than_a_day_ago_are_forgotten(watched):
     assert watched.run().returncode == 0 and len(watched.kept()["day"]) == 2
 
 
+@catches("server/bin/index-alarms", "    for kind in KINDS + OTHERS:", "    for kind in KINDS[:1]:")
 def test_a_drill_raises_each_alarm_once_and_says_who_was_told(watched):
     ended = watched.run("--drill", MAIL="ALARM_MAIL=you@example.org", STARTS=":")
     kinds = ["disk", "clock", "restarts", "backup", "failed", "refused", "unlogged", "behind", "off", "health",
@@ -230,6 +245,7 @@ def test_a_drill_raises_each_alarm_once_and_says_who_was_told(watched):
     assert [it.split("-")[2] for it in started] == kinds
 
 
+@catches("server/bin/index-alarms", "            status = 1", "            status = 0")
 def test_a_drill_says_that_nobody_has_a_mail_and_fails_if_an_alarm_did_not_go_out(watched):
     ended = watched.run("--drill", STARTS=":")
     assert_ends(ended, 0, "disk: told to the journal; no mail, since ALARM_MAIL is not set")

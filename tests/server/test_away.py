@@ -8,6 +8,7 @@ import time
 
 import pytest
 from support.places import TOP
+from support.planted import catches
 from support.server.expected import assert_reply
 from support.server.farm import PIP, Farm
 from support.server.front import seconds_of_waits
@@ -22,6 +23,7 @@ LEAST = 3
 WAITED = "WWW-Authenticate"
 
 
+@catches("tests/support/server/front.py", "worker_connections 768;", "worker_connections 40;")
 def test_two_hundred_clients_at_once_from_one_address(filled_index, front, looked):
     """Each asks for a page and a file, once."""
     farm = Farm(front, is_patient=False)

@@ -9,6 +9,7 @@ from contextlib import closing
 
 import pytest
 from support.places import BIN, SERVER
+from support.planted import catches
 from support.running import run_command
 from support.server.expected import assert_ends
 from support.server.front import replaced
@@ -48,6 +49,8 @@ def missing_in(path, files):
     return [it for it, body in files.items() if found.get(it) != body]
 
 
+@catches("server/bin/index-verify", "if ended.returncode:", "if not ended.returncode:")
+@catches("server/bin/index-backup", "for old in there[:-keep]:", "for old in there[:-keep - 1]:")
 @pytest.mark.slow
 def test_a_copy_under_uploads_has_what_was_acknowledged_before_and_serves_it(
         program, index, backup, backups, chance, looked):
@@ -70,6 +73,7 @@ def test_a_copy_under_uploads_has_what_was_acknowledged_before_and_serves_it(
         looked(not missing, "the copy serves", missing)
 
 
+@catches("server/bin/index-backup", "if isinstance(between, bytes):", 'if between == before == b"none":')
 def test_a_copy_has_what_the_log_alone_has(index, backup, backups):
     accepted(index.claim("quiet"))
     accepted(index.upload("quiet", "quiet-1.0.tar.gz", b"new"))
@@ -88,6 +92,8 @@ def filled(index):
     return index
 
 
+@catches("server/bin/index-backup", "if there[-1] > made:", "if not there:",
+         also=["server/test_unit_backup.py::test_no_copy_is_removed_while_one_of_a_later_time_is_there"])
 def test_copies_of_a_clock_that_was_ahead_take_none_away(filled, backup, backups):
     """As after hourly backups in one night with a wrong clock: they are more than are kept."""
     assert_ends(backup(filled.path), 0)
@@ -108,6 +114,8 @@ def test_copies_of_a_clock_that_was_ahead_take_none_away(filled, backup, backups
 class TestNothingIsLeft:
     """Of a backup that failed."""
 
+    @catches("server/bin/index-backup",
+             'want_room(folder, size_of(db, ("", "-wal", "-wal")), "make room, or keep fewer copies")', "pass")
     def test_without_room_it_is_not_begun(self, filled, backup, backups, folder):
         large = shutil.copy(filled.path, f"{folder}/hole.db")
         # a file with a hole, longer than any disk here has room
@@ -116,12 +124,17 @@ class TestNothingIsLeft:
         assert_ends(backup(large, shell="ulimit -f 100000"), 1, "make room, or keep fewer")
         assert os.listdir(backups) == []
 
+    @catches("server/bin/index-backup", "copy(db, target)", '''os.system(f"cp '{db}' '{target}'")''',
+             ("server/bin/index-backup", 'copy(f"{db}-wal", f"{target}-wal")',
+              '''os.system(f"cp '{db}-wal' '{target}-wal'")'''))
+    @catches("server/bin/index-backup", "removed(part)", "pass")
     @pytest.mark.told("`index-backup` failed")
     def test_a_disk_that_is_full_meanwhile_ends_it(self, filled, backup, backups):
         # files of at most 40 blocks
         assert_ends(backup(filled.path, shell="ulimit -f 40"), 1, "index-backup: cp --reflink=auto")
         assert os.listdir(backups) == []
 
+    @catches("server/bin/index-verify", "if ended.returncode:", "if ended.returncode < 0:")
     def test_a_page_that_was_overwritten(self, filled, backup, backups, folder):
         assert_ends(backup(filled.path), 0)
         copy, = os.listdir(backups)
@@ -132,6 +145,7 @@ class TestNothingIsLeft:
         assert_ends(backup(damaged), 1, "index check ended with status 1")
         assert [it for it in os.listdir(backups) if it.endswith(".db")] == []
 
+    @catches("server/bin/index-verify", " OR sha256(body) <> digest", "")
     def test_a_file_with_other_bytes_of_the_same_length(self, filled, backup, backups, folder):
         assert_ends(backup(filled.path), 0)
         copy, = os.listdir(backups)
@@ -185,14 +199,18 @@ class TestAnIndexThatNeverPauses:
         """What systemctl was asked."""
         return lambda: [line for line in called(f"{folder}/bin").splitlines() if line.startswith("systemctl ")]
 
+    @catches("server/bin/index-backup", "if before == between == state(db):", "if before:",
+             also=["TestAnIndexThatNeverPauses::test_with_a_unit_it_is_stopped_and_started"])
     def test_without_a_unit_there_is_no_copy(self, run, asked):
         assert_ends(run(), 1, "2 trials", "--unit")
         assert asked() == []
 
+    @catches("server/bin/index-backup", "if not trials and unit:", "if not trials and not unit:")
     def test_with_a_unit_it_is_stopped_and_started(self, run, asked):
         assert_ends(run("--unit", "one.service"), 0, "at trial 1")
         assert asked() == ["systemctl stop one.service", "systemctl start one.service"]
 
+    @catches("server/bin/index-backup", "with held(), noted(unit):", "with noted(unit):")
     @pytest.mark.parametrize("number", ["HUP", "INT", "TERM"])
     @pytest.mark.parametrize("moment", ["stop", "cp", "start"])
     def test_interrupted_at_any_moment_it_starts_the_unit_again(
@@ -204,6 +222,7 @@ class TestAnIndexThatNeverPauses:
         assert called(f"{folder}/bin").splitlines()[-1] == "ended start one.service", called(f"{folder}/bin")
         assert os.listdir(backups) == []
 
+    @catches("server/bin/index-backup", '        os.remove(f"{folder}/stopped")', "        pass", case="")
     @pytest.mark.parametrize("moment", ["stop", "cp", "start", ""])
     def test_killed_at_any_moment_its_own_unit_starts_the_other(self, program, changing, hurried, backups, folder,
                                                                 moment):

@@ -10,6 +10,7 @@ import pytest
 from support.clients.forms import BOUNDARY, Service, form
 from support.needed import want_file
 from support.places import TOP
+from support.planted import catches
 from support.running import run_command
 from support.server.front import MODULES, Front, kept
 from support.server.kept import Kept
@@ -102,6 +103,8 @@ def test_of_two_tokens_the_one_is_named_that_the_index_takes(front):
     assert [it["caller"] for it in logged(front)] == [OFFICE]
 
 
+@catches("server/bin/index-legacy-upload", 'self.send_header("X-Index-File", self.file)', "pass",
+         also=["test_a_refused_form_names_its_file", "server/test_unit_legacy_service.py::test_what_a_client_is_told"])
 @pytest.mark.parametrize("login", ["__token__:office", ":office", "ann: office\n"])
 def test_a_form_names_its_caller_and_its_file(forms, login):
     status, headers, body = posted(forms, "frob-1.0.tar.gz", login=login)

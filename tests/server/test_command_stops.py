@@ -7,6 +7,7 @@ import signal
 import pytest
 from support.needed import want_command
 from support.places import BIN
+from support.planted import catches
 from support.running import kill_after, run_command
 from support.server.restores import names_of
 from support.server.stops import SIGNALS, ended_before, halved, is_reached
@@ -54,6 +55,10 @@ def look_again(program, at, command, number, looked, ended):
     shutil.rmtree(at)
 
 
+@catches("server/bin/index-reseal", "        with held():", "        if True:", case="reseal-2")
+@catches("server/bin/index-backup", "        with held():", "        if True:", case="backup-2")
+@catches("server/bin/index-backup", 'for old in kept(folder, f".part{end}"):', 'for old in kept(folder, ".part"):',
+         case="backup-9")
 @pytest.mark.slow
 @pytest.mark.timeout(1800)
 @pytest.mark.parametrize("number", SIGNALS)
@@ -71,6 +76,7 @@ def test_stopped_at_each_step_nothing_is_lost_and_a_second_run_does_it(program, 
     assert step > 2
 
 
+@catches("server/bin/index-backup", "removed(part)", "pass", case="backup-2")
 @pytest.mark.parametrize("number", SIGNALS)
 @pytest.mark.parametrize("command", COMMANDS)
 def test_stopped_in_the_midst_of_a_copy_nothing_is_lost_and_a_second_run_does_it(program, made, folder, looked, command,

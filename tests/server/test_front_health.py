@@ -8,6 +8,7 @@ import sys
 import pytest
 from support.library import front as library
 from support.places import SERVER
+from support.planted import catches
 from support.ports import free_port
 from support.running import run_command
 from support.server.expected import assert_ends
@@ -52,10 +53,14 @@ def look_until(status, look, *well):
     return seen[-1]
 
 
+@catches("server/lib/package_index/front.py", "server_hostname=front.host)", 'server_hostname="x")')
 def test_an_nginx_that_answers_by_its_name_is_well(named):
     assert_ends(look(named), 0)
 
 
+@catches("server/lib/package_index/front.py",
+         'return f"nginx does not answer for {front.host} at port {front.port}: {end!r}"', 'return ""',
+         also=["test_an_nginx_that_hangs_is_told"])
 @pytest.mark.told("nginx does not answer")
 def test_an_nginx_that_is_stopped_is_told_and_the_index_is_not_restarted(named, folder):
     named.process.terminate()
@@ -83,6 +88,10 @@ def test_an_nginx_that_hangs_is_told(named):
         os.kill(named.process.pid, signal.SIGCONT)
 
 
+@catches("server/lib/package_index/front.py", "socket.create_connection((front.address, front.port)",
+         "socket.create_connection((LOOPBACK, front.port)")
+@catches("server/bin/index-health", 'faults += [f"{address}: {found.seen}"] if found.status else []',
+         'faults = [f"{address}: {found.seen}"] if found.status else []')
 def test_each_nginx_is_asked_at_its_address_and_those_that_are_gone_are_told(named):
     there = ["--at", "127.0.0.1", *(["--at", "::1"] if has_ipv6() else [])]
     assert_ends(look(named, *there), 0)
@@ -96,6 +105,8 @@ def test_a_certificate_of_one_nginx_of_several_is_told(front):
     assert_ends(look(front, "--at", "127.0.0.1"), 10, f"127.0.0.1: nginx's certificate for {HOST}: Hostname mismatch")
 
 
+@catches("server/bin/index-health", 'raise Refused(f"{words.front}, which says',
+         'return Look(WELL) if words.front else Refused(f"{words.front}, which says')
 def test_several_nginx_are_asked_by_a_file_that_is_there(named, folder):
     index = words_for(named)[-1]
     ended = run_command([*HEALTH, "--front", f"{folder}/none.conf", "--at", "127.0.0.1", index])
@@ -112,11 +123,16 @@ def test_the_unit_for_several_nginx_asks_each_and_reaches_no_other():
     assert re.findall(r"--room \S+", other) == rooms and "http://127.0.0.1:8080\n" in other
 
 
+@catches("server/lib/package_index/front.py", "        trust.load_verify_locations(cadata=certificate)",
+         "        trust.check_hostname = False; trust.load_verify_locations(cadata=certificate)",
+         also=["test_a_certificate_of_one_nginx_of_several_is_told"])
 @pytest.mark.told("the certificate has ended")
 def test_a_certificate_for_another_name_is_told(front):
     assert_ends(look(front), 10, f"nginx's certificate for {HOST}: Hostname mismatch")
 
 
+@catches("server/bin/index-health", "fault = fault or fault_of_certificate(front, words.patience, words.days)",
+         'fault = fault or ""')
 @pytest.mark.told("the certificate has ended")
 def test_a_certificate_that_has_ended_is_told(kept_index, certificate, folder):
     os.mkdir(f"{folder}/ended")
@@ -127,6 +143,7 @@ def test_a_certificate_that_has_ended_is_told(kept_index, certificate, folder):
         assert_ends(look(nginx), 10, f"nginx's certificate for {HOST}: certificate has expired")
 
 
+@catches("server/lib/package_index/front.py", 'if left < days else ""', 'if left < 0 else ""')
 @pytest.mark.told("the certificate ends within 21 days")
 def test_a_certificate_that_ends_soon_is_told(named):
     assert_ends(look(named, "--days", "1.5"), 0)
@@ -137,6 +154,7 @@ def test_a_certificate_that_ends_soon_is_told(named):
     assert "--days 21\n" in unit("index-certificate.service") and "=1d\n" in unit("index-certificate.timer")
 
 
+@catches("server/bin/index-health", "if not fault and words.authority:", "if not fault and not words.authority:")
 @pytest.mark.told("nginx sends it without its chain")
 def test_a_certificate_without_its_chain_is_told(kept_index, certificate, folder):
     """As after cert.pem in the place of fullchain.pem: a leaf that an intermediate authority has signed."""
@@ -154,6 +172,8 @@ def test_a_certificate_without_its_chain_is_told(kept_index, certificate, folder
     assert "\nEnvironment=AUTHORITY=\n" in text
 
 
+@catches("server/bin/index-health", 'return Look(BOTH, f"{room.seen}; {front.seen}")', "return room",
+         also=["server/test_unit_health.py::test_little_room_hides_no_nginx_that_is_gone"])
 @pytest.mark.told("a disk and nginx at once")
 def test_little_room_hides_no_nginx_that_is_gone(named, folder):
     named.process.terminate()
@@ -162,6 +182,7 @@ def test_little_room_hides_no_nginx_that_is_gone(named, folder):
     assert_ends(ended, 11, f"make room: {folder} has", f"nginx does not answer for {HOST}")
 
 
+@catches("server/bin/index-health", "Look(WELL) if words.front_only else", "")
 def test_the_certificate_of_an_nginx_without_an_index_beside_it_is_looked_at(named):
     """As of two machines, behind nginx on a third; and on those two, which have no nginx, nothing is told."""
     words = re.search(r"^ExecStart=\S+ (.*)$", unit("index-certificate.service"), re.M)[1].split()
@@ -175,6 +196,8 @@ def test_the_certificate_of_an_nginx_without_an_index_beside_it_is_looked_at(nam
     assert_ends(run_command([*HEALTH, "--patience", "2", *words, nobody]), 0)
 
 
+@catches("server/lib/package_index/front.py", 'return "" if status in ANSWERS else', 'return "" if status else')
+@catches("server/lib/package_index/front.py", "ANSWERS = 200, 401", "ANSWERS = 200, 403")
 def test_readers_that_need_a_password_are_no_fault_and_an_answer_of_another_kind_is(named):
     inner = f"{named.folder}/index/server.d/mine.conf"
     for text, status, said in (("auth_basic x; auth_basic_user_file /dev/null;", 0, ""),
@@ -190,6 +213,7 @@ def test_readers_that_need_a_password_are_no_fault_and_an_answer_of_another_kind
         assert_ends(look_until(status, lambda: look(named, patience="1")), status, said)
 
 
+@catches("server/lib/package_index/front.py", "ANSWERS = 200, 401, 507", "ANSWERS = 200, 401")
 def test_nginx_tells_that_a_disk_is_full_until_a_look_finds_room(named, folder):
     path, full = stand_ins(f"{folder}/bin", systemctl=""), f"{named.folder}/index-full"
     words = words_for(named)
@@ -200,11 +224,13 @@ def test_nginx_tells_that_a_disk_is_full_until_a_look_finds_room(named, folder):
     assert called(f"{folder}/bin") == ""
 
 
+@catches("server/lib/package_index/front.py", "except FileNotFoundError:", "except IsADirectoryError:")
 def test_no_nginx_of_this_index_is_asked_for_without_its_file(index, folder):
     url = f"http://127.0.0.1:{index.port}"
     assert_ends(run_command([*HEALTH, "--front", f"{folder}/none.conf", url]), 0)
 
 
+@catches("server/lib/package_index/front.py", r'(\d+)\s+ssl\b"', r'(\d+)"')
 @pytest.mark.parametrize("text, found", [
     ("server_name a.b;\n listen 443 ssl;", ("a.b", 443)),
     ("  server_name a.b c.d;\nlisten [::]:8443 ssl http2;", ("a.b", 8443)),
@@ -216,6 +242,9 @@ def test_the_name_and_the_port_are_those_of_the_file(tmp_path, text, found):
     assert library.front_of(f"{SERVER}/nginx/packages.conf") == library.Front(HOST, 443)
 
 
+@catches("server/lib/package_index/front.py", "    if not host:", "    if False:",
+         ("server/lib/package_index/front.py", "int(port[1])) if port else None",
+          "int(port[1])) if host and port else None"))
 @pytest.mark.parametrize("text", ["", "# server_name a.b;\nlisten 443 ssl;"])
 def test_a_file_of_nginx_that_was_cut_off_is_told(index, tmp_path, text):
     (tmp_path / "conf").write_text(text)

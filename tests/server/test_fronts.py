@@ -7,6 +7,7 @@ from contextlib import ExitStack, contextmanager
 import pytest
 from support.library import fronts
 from support.places import BIN
+from support.planted import catches
 from support.running import run_command
 from support.server.expected import assert_ends, assert_reply
 from support.server.front import Front, kept, make_certificate
@@ -91,6 +92,10 @@ def both(kept_index, named, folder):
         assert not one.nginx.errors() + two.nginx.errors()
 
 
+@catches("server/bin/index-uncache-follow", "fronts.add_line(list_beside(words.place), line)", "pass",
+         also=["test_one_that_was_off_serves_nothing_that_was_removed_meanwhile",
+               "test_one_that_is_gone_is_told_and_its_list_is_read_once_it_is_back",
+               "server/test_front_stops.py::test_stopped_at_each_step_a_second_run_does_all[of_a_log-9]"])
 def test_what_is_removed_through_one_goes_out_of_the_other_too(both, looked):
     one, two = both
     with one.following(None, two), two.following(None, one):
@@ -114,6 +119,8 @@ def test_without_its_list_the_other_keeps_what_was_removed(both):
         assert two.has(FILES[0])
 
 
+@catches("server/lib/package_index/fronts.py", "return found[1:] if found", "return found[-1:] if found",
+         also=["server/test_unit_fronts.py::test_the_lines_behind_a_place_are_those_of_the_same_list"])
 def test_one_that_was_off_serves_nothing_that_was_removed_meanwhile(both):
     one, two = both
     with one.following(None):
@@ -129,6 +136,9 @@ def test_one_that_was_off_serves_nothing_that_was_removed_meanwhile(both):
                 assert two.soon_lacks(FILES[1], FILES[2])[0] and two.has(FILES[3])
 
 
+@catches("server/lib/package_index/fronts.py", "raise Refused(why) from None", "return",
+         also=["test_an_nginx_that_gives_no_list_is_told",
+               "server/test_unit_fronts.py::test_a_failure_is_told_once_and_refused_after_the_patience"])
 def test_one_that_is_gone_is_told_and_its_list_is_read_once_it_is_back(both):
     one, two = both
     with one.following(None), two.following(one):
@@ -145,6 +155,8 @@ def test_one_that_is_gone_is_told_and_its_list_is_read_once_it_is_back(both):
         one.nginx.__enter__()
 
 
+@catches("server/lib/package_index/fronts.py", "if reply.status not in (200, 206,", "if reply.status in (",
+         also=["server/test_unit_fronts.py::test_another_answer_is_refused"])
 @pytest.mark.parametrize("change, said", [
     (("allow 127.0.0.1;", ""), "it answers 403: its fronts.conf does not allow this machine"),
     (("location = /fronts/removed", "location = /fronts/none"), "it answers 404: it has no fronts.conf, or no")])
@@ -159,6 +171,8 @@ def test_an_nginx_that_gives_no_list_is_told(both, change, said):
         assert_ends(two.run(one, "--patience", "0"), 1, said)
 
 
+@catches("server/lib/package_index/fronts.py", "ssl.create_default_context(), time",
+         "ssl._create_unverified_context(), time")
 def test_an_nginx_that_another_authority_has_signed_is_not_believed(both, folder):
     one, two = both
     os.mkdir(f"{folder}/other")
@@ -167,6 +181,7 @@ def test_an_nginx_that_another_authority_has_signed_is_not_believed(both, folder
     assert_ends(ended, 1, "no list of what 127.0.0.1 has removed", "self-signed certificate")
 
 
+@catches("server/bin/index-uncache-follow", "if not own:", "if own is ...:")
 def test_an_address_that_is_none_is_told(both):
     one, two = both
     words = [no if it == "127.0.0.1" else it for it in two.words(one, "--patience", "0")
@@ -176,6 +191,8 @@ def test_an_address_that_is_none_is_told(both):
     assert_ends(none, 1, f"{two.folder}/none.conf, which says what to ask for at 127.0.0.1, is not there or has no TLS")
 
 
+@catches("server/lib/package_index/fronts.py", "if found and found[0][1] == place else None", "if found else None",
+         also=["server/test_unit_fronts.py::test_the_lines_behind_a_place_are_those_of_the_same_list"])
 def test_a_list_that_another_has_replaced_is_read_from_its_start(both):
     one, two = both
     with two.following(one):

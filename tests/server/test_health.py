@@ -9,6 +9,7 @@ import time
 
 import pytest
 from support.places import SERVER
+from support.planted import catches
 from support.ports import free_port
 from support.running import run_command
 from support.server.expected import assert_ends
@@ -30,11 +31,17 @@ def path(bin_folder):
     return stand_ins(bin_folder, systemctl="")
 
 
+@catches("server/bin/index-health", "return Look(WELL) if reply.status == 200 else",
+         "return Look(WELL) if reply.status == 500 else",
+         also=["test_an_index_that_fails_is_restarted", "TestStart::test_a_start_that_succeeds",
+               "TestStart::test_a_start_that_fails"])
 def test_an_index_that_answers_is_well_and_is_not_restarted(index, path, bin_folder):
     assert_ends(look_at_health(path, f"http://127.0.0.1:{index.port}"), 0)
     assert called(bin_folder) == ""
 
 
+@catches("server/bin/index-health", 'return Look(ABSENT, f"nobody listens: {end!r}")',
+         'return Look(RESTART, f"nobody listens: {end!r}")')
 @pytest.mark.told("nobody listens for a minute")
 def test_an_index_that_is_away_is_waited_for_and_is_not_restarted(path, bin_folder):
     begun = time.monotonic()
@@ -51,6 +58,7 @@ def test_an_index_that_fails_is_restarted(path, bin_folder):
     assert called(bin_folder) == RESTARTED
 
 
+@catches("server/bin/index-health", 'return Look(RESTART, f"no answer: {end!r}")', "return Look(WELL)")
 @pytest.mark.told("the index fails")
 def test_a_silent_index_is_restarted(path, bin_folder):
     with socket.create_server(("127.0.0.1", 0)) as silent:
@@ -63,6 +71,8 @@ def test_a_silent_index_is_restarted(path, bin_folder):
 DISK = """mount -t tmpfs -o size=1m none "$1" && shift && exec "$@" """
 
 
+@catches("server/bin/index-health", "if found.status == WELL:", "if found.status == RESTART:",
+         also=["server/test_unit_health.py::test_room_is_looked_at_only_if_the_index_is_well"])
 @pytest.mark.told("a disk has little room")
 def test_a_disk_with_little_room_is_told_and_the_index_is_not_restarted(index, path, bin_folder, folder):
     small, url = f"{folder}/small", f"http://127.0.0.1:{index.port}"
@@ -100,6 +110,7 @@ def test_the_unit_looks_at_each_disk_that_matters():
         "/var/lib/index", "/var/cache/nginx", "/var/log", "/var/backups/index"]
 
 
+@catches("server/debian/templates.py", 'is_changed = is_run and "--room" not in line', "is_changed = is_run")
 def test_the_template_looks_into_no_folder_of_one_index(folder):
     """Its user may not, and the disks are the same."""
     made = shutil.copytree(f"{SERVER}/systemd", f"{folder}/units")
@@ -116,6 +127,8 @@ class TestStart:
         words = [*HEALTH, "--start", str(index.process.pid), f"http://127.0.0.1:{index.port}"]
         assert_ends(run_command(words), 0)
 
+    @catches("server/bin/index-health", "while is_there(process):", "if is_there(process):")
+    @catches("server/bin/index-health", "return False", "return True")
     def test_a_start_that_hangs_is_waited_for_until_the_program_ends(self):
         with Running(["sleep", "300"]) as hung, Closes() as closes:
             words = [*HEALTH, "--start", str(hung.process.pid), f"http://127.0.0.1:{closes.port}"]
@@ -141,6 +154,7 @@ class TestStart:
             ended = run_command(["bash", "-c", script.replace("\\\n", " ").replace("8080", str(port))])
             assert_ends(ended, status, said)
 
+    @catches("server/debian/templates.py", '("127.0.0.1/8080", "127.0.0.1/%i"),', "")
     def test_each_of_several_looks_at_its_own_port(self, folder):
         made = shutil.copytree(f"{SERVER}/systemd", f"{folder}/units")
         assert_ends(run_command([sys.executable, f"{SERVER}/debian/templates.py", made]), 0)

@@ -6,6 +6,7 @@ import time
 
 import pytest
 from support.needed import want_command
+from support.planted import catches
 from support.server.expected import assert_ends, assert_reply
 from support.server.hosts import NAMES, behind_nginx
 from support.server.kept import Uploader
@@ -76,6 +77,7 @@ def test_a_host_that_loses_its_power_comes_back_and_has_lost_nothing(behind, cha
         looked(it.files and not missing, "no acknowledged upload is lost", missing, len(it.files))
 
 
+@catches("server/bin/index-health", 'return Look(RESTART, f"no answer: {end!r}")', "return Look(WELL)")
 @pytest.mark.slow
 def test_an_index_that_waits_for_a_lost_cable_is_restarted_by_the_check_of_health(on_hosts, folder):
     """A request breaks off with the cable. The index waits for the rest of it until it is restarted."""

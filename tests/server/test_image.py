@@ -15,6 +15,7 @@ import pytest
 from support.needed import want_command
 from support.packages import make_wheel, wheel_files
 from support.places import TOP
+from support.planted import catches
 from support.running import run_command
 from support.server.expected import assert_ends
 from support.server.packaged import make_package
@@ -81,12 +82,14 @@ def pod(archive: str, tmp_path_factory: pytest.TempPathFactory) -> Iterator[Pod]
         made.end()
 
 
+@catches("tools/image", '"--timestamp", str(moment), made, IMAGE', "made, IMAGE")
 def test_an_image_made_again_has_the_same_bytes(archive, package, tmp_path):
     ended = make_image(package, str(tmp_path), TZ="Asia/Tokyo", HOME=str(tmp_path), COLUMNS="40")
     assert ended.returncode == 0, ended.stdout
     assert filecmp.cmp(archive, f"{tmp_path}/package-index_1_amd64.oci.tar", shallow=False)
 
 
+@catches("tools/image", 'USER = "10001:10001"', 'USER = "0:0"')
 def test_the_archive_is_an_image_of_one_layer_with_its_packages_beside_it(archive, looked):
     with tarfile.open(archive) as kept:
         def read(name):
@@ -121,6 +124,7 @@ def test_pip_installs_what_was_uploaded(pod, tmp_path):
     assert "Successfully installed frob-1.0" in ended.stdout, ended.stdout
 
 
+@catches("server/bin/index-health", 'connection.request("GET", "/names/x")', 'connection.request("GET", "/nowhere")')
 def test_a_probe_finds_the_index_and_nginx_well(pod, looked):
     for container, words in (("index-index", ["--patience", "60"]),
                              ("index-nginx", ["--front-only", "--front", "/run/nginx/packages.conf"])):
@@ -162,6 +166,7 @@ def test_a_copy_is_restored_as_the_page_says_and_what_it_forgets_is_listed(pod, 
     looked(pod.ask("GET", "/files/egg/egg-2.tar.gz")[0] == 404, "what came after it, in nginx's cache too")
 
 
+@catches("tools/image", '["/usr/bin/tini","--","/usr/bin/index-container"]', '["/usr/bin/index-container"]')
 def test_a_container_that_is_stopped_ends_by_sigterm_and_the_next_pod_has_the_same_disks(pod, looked):
     """tini passes the signal on. Without it podman would wait two minutes, and then send SIGKILL."""
     assert pod.claim("ham")

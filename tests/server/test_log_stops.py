@@ -7,6 +7,7 @@ import signal
 
 import pytest
 from support.places import BIN
+from support.planted import catches
 from support.running import run_command
 from support.server.caches import keys, make_cache
 from support.server.logs import CLAIMS, Logs, bytes_of
@@ -53,6 +54,9 @@ def look_again(logs, at, run, number, looked, before, ended):
     shutil.rmtree(at)
 
 
+@catches("server/bin/index-log", "if os.path.isdir(folder):",
+         'if os.path.isdir(folder) or os.path.isdir(f"{folder}.part"):', case="accept-9",
+         also=["test_stopped_in_the_midst_of_a_copy_no_log_is_cut[accept-9]"])
 @pytest.mark.slow
 @pytest.mark.timeout(1800)
 @pytest.mark.parametrize("number", SIGNALS)
@@ -87,6 +91,7 @@ def test_stopped_in_the_midst_of_a_copy_no_log_is_cut(logs, damaged, folder, loo
 CACHED = [*(("frob", f"frob-1.{it}.tar.gz") for it in range(3)), ("spam", "spam-1.tar.gz")]
 
 
+@catches("server/bin/index-uncache", "    for _, path in wanted:", "    for _, path in wanted[1:]:")
 @pytest.mark.parametrize("number", SIGNALS)
 def test_a_project_that_was_half_taken_out_is_taken_out_by_a_second_run(folder, looked, number):
     step, has_more = 0, True

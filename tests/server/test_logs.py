@@ -6,6 +6,7 @@ import subprocess
 import time
 
 import pytest
+from support.planted import catches
 from support.server.expected import assert_ends
 from support.server.logs import CLAIMS, HEAD, Logs, bytes_of, claim
 from support.server.rows import verified
@@ -43,12 +44,17 @@ def loses(logs, bit, looked):
     return left != CLAIMS
 
 
+@catches("server/bin/index-log", "if log.is_open(first):", "if first < 0:",
+         also=["TestDamaged::test_each_start_is_refused_and_both_files_are_kept_once",
+               "TestDamaged::test_index_verify_refuses_it",
+               "TestDamaged::test_an_accepted_loss_leaves_what_was_written_before_the_damage"])
 @pytest.mark.slow
 def test_a_flipped_bit_is_told_exactly_if_the_program_would_drop_something_for_it(logs, chance, looked, pytestconfig):
     bits = logs.bits(pytestconfig.option.rounds or FLIPS, chance)
     looked(any([loses(logs, bit, looked) for bit in bits]), "no bit lost anything")
 
 
+@catches("server/bin/index-log", 'return Look(True, f"the header', 'return Look(False, f"the header')
 def test_a_flipped_bit_of_the_header_is_told_as_the_loss_of_all(logs, chance, looked):
     """A bit of each of its 8 numbers, but not of its first byte, by which the program sees that a log is emptied."""
     for at in range(0, HEAD, 4):
@@ -56,6 +62,8 @@ def test_a_flipped_bit_of_the_header_is_told_as_the_loss_of_all(logs, chance, lo
         looked(loses(logs, bit, looked), bit)
 
 
+@catches("server/bin/index-log", "return at < len(self.data) and self.data[at] == self.salt[0]",
+         "return at < len(self.data)", also=["test_a_start_with_a_sound_log"])
 @pytest.mark.slow
 def test_a_log_that_a_kill_left_in_the_midst_of_changes_is_not_damaged(logs, program, chance, looked, pytestconfig):
     """The next opening has all that was acknowledged."""
@@ -78,6 +86,8 @@ def test_a_log_that_a_kill_left_in_the_midst_of_changes_is_not_damaged(logs, pro
         looked(names in (len(acknowledged), len(acknowledged) + 1), number, len(acknowledged), names)
 
 
+@catches("server/bin/index-log", "os.execvp(command[0], command)", 'os.execvp("true", ["true"])',
+         also=["TestDamaged::test_an_accepted_loss_leaves_what_was_written_before_the_damage"])
 def test_a_start_with_a_sound_log(logs):
     assert_ends(logs.report(logs.copy()), 0, f"name{CLAIMS - 1} ")
 
@@ -85,6 +95,9 @@ def test_a_start_with_a_sound_log(logs):
 class TestDamaged:
     """A start with a damaged log is refused until the loss is accepted."""
 
+    @catches("server/bin/index-log", "if command and not status:", "if command:")
+    @catches("server/bin/index-log", "{hashlib.sha256(data).hexdigest()[:12]}",
+             "{hashlib.sha256(os.urandom(9)).hexdigest()[:12]}")
     @pytest.mark.told("the log of the database is damaged")
     def test_each_start_is_refused_and_both_files_are_kept_once(self, logs, damaged, looked):
         before = both(damaged)
@@ -99,6 +112,9 @@ class TestDamaged:
     def test_index_verify_refuses_it(self, logs, damaged):
         assert_ends(verified(logs.program, damaged), 1, "would be dropped")
 
+    @catches("server/bin/index-log", r'log.write(b"\0")', "pass")
+    @catches("server/bin/index-log", "log.seek(look.gate)", "log.seek(0)")
+    @catches("server/bin/index-log", "    cut(db, look)", "    cut(db, look); shutil.rmtree(folder)")
     def test_an_accepted_loss_leaves_what_was_written_before_the_damage(self, logs, damaged):
         before = both(damaged)
         assert_ends(logs.log("--accept", damaged), 0, "cut there")
@@ -109,6 +125,9 @@ class TestDamaged:
         assert 0 < len(left) < CLAIMS, ended.stdout
         assert kept(damaged) == [before]
 
+    @catches("server/bin/index-log", "folder = kept(db, data)", "cut(db, look); folder = kept(db, data)")
+    @catches("server/bin/index-log", 'copy(db + end, f"{part}/{name}{end}", "--preserve=timestamps")',
+             '''os.system(f"cp '{db + end}' '{part}/{name}{end}'")''')
     def test_a_loss_is_not_accepted_before_both_files_are_kept(self, logs, damaged):
         before = both(damaged)
         # files may have three quarters of the log: more than the database has, and where the log would be cut
@@ -116,6 +135,7 @@ class TestDamaged:
         assert_ends(logs.log("--accept", damaged, shell=f"ulimit -f {blocks}"), 1, "index-log: cp --")
         assert (both(damaged), kept(damaged)) == (before, [])
 
+    @catches("server/bin/index-log", "lock(database)", "pass")
     def test_a_loss_of_an_open_database_is_not_accepted(self, logs, damaged):
         with Index(logs.program, path=logs.copy()) as index:
             shutil.copy(f"{damaged}-wal", f"{index.path}-wal")
@@ -124,6 +144,7 @@ class TestDamaged:
             assert bytes_of(f"{index.path}-wal") == before
 
 
+@catches("server/bin/index-log", "if not look.is_damaged:", "if not data:")
 def test_nothing_is_accepted_of_a_sound_log(logs):
     db = logs.copy()
     before = both(db)
@@ -131,12 +152,15 @@ def test_nothing_is_accepted_of_a_sound_log(logs):
     assert (both(db), kept(db)) == (before, [])
 
 
+@catches("server/bin/index-log", 'if is_there(f"{db}-wal") else b""', 'if db else b""')
 def test_a_database_without_a_log_has_no_commit_there(logs, program):
     empty = make_index(program, f"{logs.folder}/empty.db")
     os.remove(f"{empty}-wal")
     assert_ends(logs.log(empty), 0, "no commit")
 
 
+@catches("server/bin/index-log", "os.stat(db)", "pass", case="a_look",
+         also=["test_where_no_database_is[an_accepted_loss]"])
 @pytest.mark.parametrize("words", [[], ["--accept"]], ids=["a_look", "an_accepted_loss"])
 def test_where_no_database_is(logs, words):
     none = f"{logs.folder}/none.db"

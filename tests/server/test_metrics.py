@@ -6,6 +6,7 @@ import time
 
 import pytest
 from support.places import SERVER
+from support.planted import catches
 from support.ports import free_port
 from support.running import run_command
 from support.server.expected import assert_ends
@@ -49,35 +50,44 @@ def seen(program, words, path, folder):
     return found
 
 
+@catches("server/bin/index-metrics", "is_up = reply.status == 200", "is_up = False")
 def test_an_index_that_is_up(seen):
     assert seen.get("index_up") == 1 and 0 < seen["index_look_seconds"] < 30, seen
 
 
+@catches("server/bin/index-metrics", 'size(f"{db}-wal")', 'size(f"{db}-log")')
 def test_the_sizes_of_its_database_and_log(seen):
     assert [seen.get("index_database_bytes"), seen.get("index_log_bytes")] == seen["sizes"]
 
 
+@catches("server/bin/index-metrics", "shutil.disk_usage(folder).free", "shutil.disk_usage(folder).used % 4096")
 def test_the_room_on_its_disk(seen, folder):
     disk = os.statvfs(folder)
     free = disk.f_bavail * disk.f_frsize
     assert abs(seen.get('index_room_bytes,of="database"', 0) - free) < 1 << 30, (free, seen)
 
 
+@catches("server/bin/index-metrics", 'max(made, default=(0, ""))', 'min(made, default=(0, ""))')
 def test_its_newest_backup_and_how_many_there_are(seen):
     age = time.time() - seen.get("index_backup_newest_seconds", 0)
     assert abs(age - HOUR) < 120, seen
     assert [seen.get("index_backups"), seen.get("index_backup_parts")] == [2, 1], seen
 
 
+@catches("server/bin/index-metrics", "if number.isdigit():", "if not number:",
+         also=["test_each_alarm_asks_for_what_is_written"])
 def test_its_restarts(seen):
     assert seen.get("index_restarts") == 7, seen
 
 
+@catches("server/bin/index-metrics", r"ssl_certificate\s+", r"ssl_certificate_key\s+",
+         also=["test_each_alarm_asks_for_what_is_written"])
 def test_the_end_of_its_certificate(seen):
     days = (seen.get("index_certificate_end_seconds", 0) - time.time()) / DAY
     assert 1.9 < days <= 2.01
 
 
+@catches("server/bin/index-metrics", '/damaged-*"', '/*"')
 def test_no_damaged_log(seen):
     assert seen.get("index_damaged_logs") == 0, seen
 
@@ -90,6 +100,10 @@ def test_each_alarm_asks_for_what_is_written(seen):
     assert asked - {name.partition(",")[0] for name in seen} == {"index_health_status", "index_uncache_behind_seconds"}
 
 
+@catches("server/lib/package_index/counted.py", "grown.read_on(log, before.place, before.at,",
+         "grown.read_on(log, None, 0.0,",
+         also=["server/test_unit_counted.py::"
+               "test_a_run_that_is_ended_at_some_step_counts_nothing_twice_and_loses_nothing"])
 def test_the_changes_that_nginx_passes_on_are_counted_by_kind_and_status_with_their_time(front, folder):
     """Over two runs, each of which begins where the one before ended; those without a token don't reach the index."""
     words = [f"{folder}/none.db", folder, "--url", "http://127.0.0.1:1", "--state", f"{folder}/state", "--changes",
@@ -110,6 +124,8 @@ def test_the_changes_that_nginx_passes_on_are_counted_by_kind_and_status_with_th
     assert 0 < found['index_change_seconds_sum,of="uploads"'] < 60 and found["index_bodies_bytes"] == 0
 
 
+@catches("server/bin/index-metrics", "except (OSError, http.client.HTTPException):", "except ValueError:",
+         also=["test_a_damaged_log_is_counted"])
 def test_an_index_that_is_down_is_written_for_all_to_read(words, path, folder):
     port, out = free_port(), f"{folder}/out.prom"
     assert_ends(run_command([*METRICS, *words, "--url", f"http://127.0.0.1:{port}", "--out", out], PATH=path), 0)
@@ -118,12 +134,20 @@ def test_an_index_that_is_down_is_written_for_all_to_read(words, path, folder):
     assert stat.S_IMODE(os.stat(out).st_mode) == 0o644
 
 
+@catches("server/bin/index-metrics", '/damaged-*"', '/damage"')
 def test_a_damaged_log_is_counted(words, path, folder):
     os.mkdir(f"{folder}/damaged-0")
     found = measured([*words, "--url", f"http://127.0.0.1:{free_port()}"], PATH=path)
     assert found.get("index_damaged_logs") == 1, found
 
 
+@catches("server/bin/index-metrics", "if ended and now - ended < FRESH:", "if ended:", case="long_ago")
+@catches("server/bin/index-metrics", "int(status in ANSWERED)", "int(status not in ANSWERED)", case="well",
+         also=["test_what_the_check_of_health_saw_is_taken_over[slow_and_bad]"])
+@catches("server/bin/index-metrics", "and now - begun > PATIENCE:", "and now - begun > 10 * PATIENCE:",
+         case="under_way_for_too_long")
+@catches("server/bin/index-metrics", "and now - begun > PATIENCE:", "and now - begun > 0:", case="under_way")
+@catches("server/bin/index-metrics", "PATIENCE, FRESH = 30, 300", "PATIENCE, FRESH = 30, 60", case="five_minutes_ago")
 @pytest.mark.parametrize("status, begun, ended, up, seconds", [
     (0, 10, 9.5, 1, 0.5), (8, 70, 10, 0, 60), (0, 40, None, 0, 40), (0, 20, None, None, None),
     (0, 290, 289, 1, 1), (0, 400, 399, None, None)],

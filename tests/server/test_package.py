@@ -13,6 +13,7 @@ from collections.abc import Iterator
 import pytest
 from support.needed import want_command
 from support.places import SERVER, TOP
+from support.planted import catches
 from support.running import run_command
 from support.server.expected import assert_ends
 from support.server.packaged import WORDS, Life, Root, make_newer, make_package
@@ -54,6 +55,11 @@ def life(package: str, package_folder: str, certificate: str) -> Iterator[Life]:
         yield Life(root, package, make_newer(package, package_folder), certificate)
 
 
+@catches("tools/package", "moment = moment_of(made)", "moment = int(time.time())")
+@catches("tools/package", "os.makedirs(path, exist_ok=True)", "pass",
+         also=["program/test_mistakes.py::"
+               "test_a_mistake_is_answered_in_one_sentence[tools/package --program {index} --out {file}-is not a "
+               "folder, and can't be made: File exists]"])
 def test_a_package_made_again_is_the_same(program, package, package_folder):
     yours = {"TZ": "Asia/Tokyo", "HOME": package_folder, "COLUMNS": "40", "DEB_BUILD_OPTIONS": "nostrip"}
     ended = make_package(program, f"{package_folder}/again", "--unproved", **yours)
@@ -65,6 +71,7 @@ def test_a_package_made_again_is_the_same(program, package, package_folder):
     assert digests[0] == digests[1]
 
 
+@catches("tools/package", "if UNPROVED in told and not may_be_unproved:", "if not told:")
 def test_a_program_that_is_not_proved_is_refused(tmp_path):
     program = tmp_path / "index"
     for told, status, said in (("index 1 (NOT PROVED, kit)", 1, "that is proved"), ("index 1", 1, "ended with status")):
@@ -107,6 +114,7 @@ def test_all_pages_of_docs_are_in_it(paths, looked):
     looked("usr/share/doc/package-index/changelog.gz" in paths, "changelog.gz")
 
 
+@catches("tools/package", 'write(f"{tree}/debian/copyright", copyright_of(TOP))', "pass")
 def test_the_notices_of_others_are_in_it_and_the_list_of_its_parts_is_beside_it(package, package_folder, looked):
     run_command(["dpkg-deb", "--extract", package, f"{package_folder}/notices"])
     with open(f"{package_folder}/notices/usr/share/doc/package-index/copyright", encoding="utf-8") as kept:
@@ -118,6 +126,8 @@ def test_the_notices_of_others_are_in_it_and_the_list_of_its_parts_is_beside_it(
     looked({"index_rules", "clap", "strsim", "std"} <= names, names)
 
 
+@catches("server/debian/manuals.py", "for name in sorted(os.listdir(commands)):",
+         "for name in sorted(os.listdir(commands))[1:]:")
 def test_each_command_has_a_man_page(paths):
     commands = {os.path.basename(it) for it in paths if it.startswith("usr/bin/")}
     pages = {os.path.basename(it)[:-5] for it in paths if it.startswith("usr/share/man/man1/")}
@@ -269,6 +279,7 @@ def test_an_upgrade_does_not_want_the_disk_of_the_copies(life):
     assert life.moved["on"] == life.moved["found"]
 
 
+@catches("server/bin/index-reseal", '''f"VACUUM INTO '{target}'")''', '''f".backup '{target}'")''')
 def test_a_database_is_shrunk_and_has_what_it_had(life):
     assert_ends(life.several["shrunk"], 0)
     assert 0 < life.several["after"] < life.several["before"] - 900_000 and "before" in life.several["held"]
@@ -318,6 +329,7 @@ def test_a_purge_names_the_file_with_which_nginx_does_not_start_again(life):
     assert_ends(life.removed["purge"], 0, "remove /etc/nginx/conf.d/packages.conf too: nginx does not start again")
 
 
+@catches("tools/package", "if missing:", "if not NEEDED:")
 def test_the_commands_that_make_a_package_are_named_if_they_are_missing(tmp_path, monkeypatch):
     for name in ("git", "python3"):
         os.symlink(shutil.which(name), tmp_path / name)

@@ -7,6 +7,7 @@ import time
 
 import pytest
 from support.places import NGINX
+from support.planted import catches
 from support.running import run_command
 from support.server.expected import assert_ends, assert_reply
 from support.server.farm import PIP
@@ -105,6 +106,8 @@ class TestCompressed:
         assert {"Accept", "Accept-Encoding"} <= set(varies), varies
 
 
+@catches("tests/support/server/front.py", 'f"listen [::1]:{self.port} ssl;" if has_ipv6() and not is_plain else ""',
+         '""')
 def test_ipv6_is_served(front):
     if not has_ipv6():
         pytest.skip("this machine has no IPv6")
@@ -149,6 +152,7 @@ class TestHerd:
         assert min(longest for longest, _ in rounds) < 0.4, rounds
 
 
+@catches("tests/support/server/front.py", "worker_processes 2;", "worker_processes 2; worker_rlimit_nofile 2000000000;")
 def test_nginx_has_no_complaint(filled_index, front):
     assert_reply(front.ask("GET", "/simple/frob/"), 200)
     assert front.errors() == []

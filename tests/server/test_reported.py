@@ -12,6 +12,7 @@ import pytest
 from support.library import looks
 from support.needed import want_command
 from support.places import BIN, TOP
+from support.planted import catches
 from support.running import run_command
 from support.server.expected import assert_ends
 from support.server.front import WORKERS, Front
@@ -55,6 +56,9 @@ def disk(folder):
     run_command(["umount", "--lazy", at])
 
 
+@catches("server/lib/package_index/disk.py", '{"ro", "emergency_ro", "shutdown"}.isdisjoint',
+         '{"read_only"}.isdisjoint',
+         also=["server/test_unit_health.py::test_a_file_system_is_that_of_the_deepest_mount_and_its_own_options_count"])
 @pytest.mark.told("a disk takes no writes", "a change failed (500)")
 def test_a_disk_that_goes_read_only_is_told_and_so_are_changes_that_fail(program, disk, certificate, folder):
     path = f"{disk}/index.db"
@@ -70,6 +74,8 @@ def test_a_disk_that_goes_read_only_is_told_and_so_are_changes_that_fail(program
         assert_ends(alarms(front, path), 9, "1 change failed (500) in the last hour: is the disk of the database full")
 
 
+@catches("server/lib/package_index/looks.py", "if started and late > BEHIND:", "if started and late > BEHIND * BEHIND:",
+         also=["server/test_alarms_by_rate.py::test_a_log_that_nginx_does_not_write_is_told"])
 @pytest.mark.told("nginx does not write the log of changes")
 def test_a_log_that_nginx_can_not_open_is_told(front, kept_index):
     log = f"{front.folder}/index-changes.log"
@@ -87,6 +93,7 @@ def test_a_log_that_nginx_can_not_open_is_told(front, kept_index):
     os.truncate(f"{front.folder}/error.log", 0)
 
 
+@catches("server/lib/package_index/looks.py", "if late > BEHIND:", "if late > BEHIND * BEHIND:")
 @pytest.mark.told("`index-uncache-follow` hangs or is slow")
 def test_a_follower_that_hangs_is_told(front, monkeypatch):
     """Seen three minutes later."""
@@ -117,6 +124,7 @@ def open_text(path):
         return kept.read()
 
 
+@catches("tests/support/server/front.py", "error_log {folder}/error.log;", "error_log {folder}/error.log emerg;")
 @pytest.mark.told("nginx has too few connections")
 def test_too_few_connections_of_nginx_are_told(kept_index, certificate, folder):
     front = Front(f"{folder}/few", certificate, kept_index.port, is_plain=True)

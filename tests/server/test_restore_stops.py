@@ -9,6 +9,7 @@ import sys
 import time
 
 import pytest
+from support.planted import catches
 from support.server.expected import assert_ends
 from support.server.stops import FAILING, KEPT, SIGNALS, each_step, halved, make_both, serving
 from support.server.waits import wait_for
@@ -30,6 +31,7 @@ def way_back(restores, said):
     return found and found[1]
 
 
+@catches("server/lib/package_index/ends.py", "signal.signal(each, signal.SIG_IGN)", "pass")
 @pytest.mark.slow
 @pytest.mark.timeout(1800)
 @pytest.mark.parametrize("number", [signal.SIGINT, signal.SIGTERM, signal.SIGHUP])
@@ -55,6 +57,8 @@ def test_a_signal_at_each_step_leaves_what_was_or_what_was_asked_for_and_says_wh
     print(f"index-restore: {len(seen)} steps by {number.name}")
 
 
+@catches("server/bin/index-restore", "if is_there(db) and kept.read() == known_as(copy):", "if not copy:")
+@catches("server/bin/index-restore", "if put_names_back(db, aside):", "if aside:")
 @pytest.mark.slow
 @pytest.mark.timeout(1800)
 def test_killed_at_each_step_it_is_finished_or_begun_again_by_the_same_command(made, program, folder, looked):
@@ -82,6 +86,8 @@ def restores(made, program):
         yield found
 
 
+@catches("server/bin/index-restore", "shutil.rmtree(beside, ignore_errors=True)", "pass")
+@catches("server/bin/index-restore", "shutil.rmtree(beside, ignore_errors=True)", "pass", case="2")
 @pytest.mark.parametrize("number", SIGNALS)
 def test_stopped_in_the_midst_of_its_copy_it_leaves_what_was_and_a_second_run_does_it(restores, number):
     ended = restores.run(half=halved(restores.folder, 0, number))
@@ -91,6 +97,7 @@ def test_stopped_in_the_midst_of_its_copy_it_leaves_what_was_and_a_second_run_do
     assert restores.names() == ["kept"] and restores.is_served() and len(restores.left()) == 1
 
 
+@catches("server/bin/index-restore", 'with alone(folder, "index-restore"):', "if words.copy:")
 def test_of_two_at_once_the_second_is_refused_and_the_first_ends_well(restores):
     """The second begins when the first has copied and stops the index."""
     seconds, do = [], restores.manager.do
@@ -107,6 +114,7 @@ def test_of_two_at_once_the_second_is_refused_and_the_first_ends_well(restores):
     assert restores.names() == ["kept"] and restores.is_served()
 
 
+@catches("server/lib/package_index/exchange.py", "put_names_back(db, aside)", "pass")
 def test_a_rename_that_fails_leaves_the_old_database_and_its_log(restores):
     ended = restores.run(sys.executable, "-c", FAILING, "index.db")
     assert_ends(ended, 1, "No space left on device")
@@ -114,6 +122,7 @@ def test_a_rename_that_fails_leaves_the_old_database_and_its_log(restores):
     assert os.path.exists(f"{restores.folder}/with-pypi.conf")
 
 
+@catches("server/lib/package_index/ends.py", 'sys.stdout = open(os.devnull, "w")', "raise")
 def test_a_copy_that_is_in_its_place_stays_so_when_nobody_reads_what_is_told(restores):
     """As when a terminal was closed. What is to be done is kept beside the old database."""
     ended = restores.run("sh", "-c", 'exec "$@" > /dev/full', "sh")
@@ -123,6 +132,7 @@ def test_a_copy_that_is_in_its_place_stays_so_when_nobody_reads_what_is_told(res
         assert "1. Changes since 2026-01-01" in kept.read()
 
 
+@catches("server/bin/index-restore", "when its copy was in its place; what was there before it is in {aside}", "once")
 @pytest.mark.slow
 def test_what_a_killed_restore_of_another_copy_put_aside_is_named(restores):
     """The one that follows puts its own copy in place, and tells of both ways back."""
@@ -140,6 +150,7 @@ def test_what_a_killed_restore_of_another_copy_put_aside_is_named(restores):
     assert restores.names(f"{restores.folder}/var/{first}/index.db") == ["later"]
 
 
+@catches("server/bin/index-restore", 'if os.path.exists(f"{aside}/index.db"):', "if aside:")
 def test_the_way_back_without_a_database_is_the_newest_that_was_put_aside(restores):
     assert_ends(restores.run(), 0)
     before, = restores.left()

@@ -9,6 +9,7 @@ from contextlib import closing
 import pytest
 from support.needed import want_command
 from support.places import BIN
+from support.planted import catches
 from support.running import run_command
 from support.server.expected import assert_ends
 from support.server.logs import bytes_of, flip
@@ -48,6 +49,17 @@ def rows_of(db):
         return sorted(database.iterdump())
 
 
+@catches("server/bin/index-reseal", "page[-SUM:] = sum_of_page(page)", "pass")
+@catches("server/bin/index-reseal", "page[-SUM:] = sum_of_page(page)", "pass",
+         ("server/bin/index-reseal", 'run(f"{HERE}/index-verify", made)', "pass"),
+         also=["test_a_write_by_sqlite_spoils_the_sums_and_they_are_made_again"])
+@catches("server/bin/index-reseal", "seal(made)",
+         'run("sqlite3", made, "UPDATE names SET quota = quota + 1 WHERE state = 1"); seal(made)')
+@catches("server/bin/index-reseal", 'f".filectrl reserve_bytes {SUM}", f"VACUUM', 'f"VACUUM',
+         ("server/bin/index-reseal", "if head[FREE] != SUM:", "if head[FREE] > SUM:"),
+         ("server/bin/index-reseal", "page[-SUM:] = sum_of_page(page)", "pass"),
+         also=["test_each_flipped_bit_of_the_new_file_is_refused_as_damage",
+               "test_a_write_by_sqlite_spoils_the_sums_and_they_are_made_again"])
 def test_the_new_file_has_the_same_rows_and_room_for_sums_and_the_old_one_is_untouched(old, reseal, folder, check):
     before = bytes_of(old)
     assert_ends(reseal(old), 0, "with page sums")
@@ -70,6 +82,7 @@ def test_each_flipped_bit_of_the_new_file_is_refused_as_damage(
         looked(ended.returncode == 1 and "damaged" in ended.stdout, bit, ended.returncode, ended.stdout)
 
 
+@catches("server/bin/index-reseal", 'run(f"{HERE}/index-log", db)', 'run(os.environ["INDEX"], "check", "--db", db)')
 def test_a_write_by_sqlite_spoils_the_sums_and_they_are_made_again(old, reseal, folder, check):
     assert_ends(reseal(old), 0)
     new, again = f"{folder}/new.db", f"{folder}/again.db"
@@ -84,12 +97,14 @@ def test_a_write_by_sqlite_spoils_the_sums_and_they_are_made_again(old, reseal, 
 class TestRefused:
     """Nothing is left of a new file that is refused."""
 
+    @catches("server/bin/index-reseal", "if os.path.lexists(new):", "if not new:")
     def test_a_file_that_is_there_already_stays_as_it_is(self, old, reseal, folder):
         with open(f"{folder}/new.db", "wb") as there:
             there.write(b"mine")
         assert_ends(reseal(old), 1, "there already")
         assert bytes_of(there.name) == [b"mine"]
 
+    @catches("server/bin/index-reseal", 'run(f"{HERE}/index-verify", made)', "pass")
     @pytest.mark.told("`index-restore`")
     def test_a_wrong_row(self, old, reseal, folder):
         with closing(sqlite3.connect(old)) as database, database:
@@ -97,6 +112,7 @@ class TestRefused:
         assert_ends(reseal(old), 1, "doesn't spell")
         assert [it for it in os.listdir(folder) if it.startswith("new")] == []
 
+    @catches("server/bin/index-reseal", "lock(database)", "pass")
     def test_an_index_that_serves(self, old, reseal, program, folder):
         with Index(program, path=old):
             assert_ends(reseal(old), 1, "has it open")
@@ -122,12 +138,14 @@ class TestInterrupted:
             return run_command(words, INDEX=program, PATH=path, SIGNAL=number)
         return run
 
+    @catches("server/bin/index-reseal", "shutil.rmtree(path)", "pass")
     @pytest.mark.parametrize("number", ["HUP", "INT", "TERM"])
     def test_a_signal_leaves_nothing(self, interrupted, folder, number):
         ended = interrupted(number)
         assert (ended.returncode, ended.stdout) == (-signal.Signals[f"SIG{number}"], "index-reseal: stopped\n")
         assert [it for it in os.listdir(folder) if it.startswith("new")] == []
 
+    @catches("server/bin/index-reseal", "with suppress(FileExistsError):", "if path:")
     def test_after_a_kill_the_next_run_removes_what_was_left_and_makes_the_file(
             self, interrupted, old, reseal, folder, check):
         assert interrupted("KILL").returncode == -signal.SIGKILL
@@ -136,6 +154,7 @@ class TestInterrupted:
         assert [it for it in os.listdir(folder) if it.startswith("new")] == ["new.db"]
         assert_ends(check(f"{folder}/new.db"), 0)
 
+    @catches("server/bin/index-reseal", 'with alone(path, "index-reseal"):', "if path:")
     def test_a_run_beside_another_leaves_its_folder_alone(self, old, reseal, folder):
         os.mkdir(f"{folder}/new.db.part")
         opened = os.open(f"{folder}/new.db.part", os.O_RDONLY)

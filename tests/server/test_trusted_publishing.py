@@ -15,6 +15,7 @@ from support.clients.forms import BOUNDARY, Service, form
 from support.needed import want_command, want_file
 from support.packages import make_source, make_wheel, wheel_files, wheel_name
 from support.places import TOP
+from support.planted import catches
 from support.running import run_command
 from support.server.front import Front, kept
 from support.server.issuer import AUDIENCE, TOKEN, Issuer, claims, placed
@@ -78,6 +79,9 @@ def world(kept_index: Kept, certificate: str, folder: str, issuer: Issuer,
             assert not front.errors()
 
 
+@catches("server/lib/package_index/trusted.py", 'if TOKEN.fullmatch(password) and password.startswith("eyJ"):',
+         "if password.startswith(PREFIX):",
+         also=["server/test_unit_trusted.py::test_an_identity_token_is_good_for_once_and_no_password"])
 def test_a_pipeline_uploads_what_its_publisher_has_and_nothing_else(world, issuer):
     status, _, body = world.front.ask("GET", "/_/oidc/audience")
     assert (status, json.loads(body)) == (200, {"audience": AUDIENCE})

@@ -3,6 +3,7 @@ import sys
 
 import pytest
 from support.places import BIN
+from support.planted import catches
 from support.running import run_command
 from support.server.expected import assert_ends, assert_reply
 from support.serving import accepted
@@ -29,12 +30,20 @@ def uncache(cached):
     return run
 
 
+@catches("server/bin/index-uncache", "exact = place_of_file(cache, project, file)",
+         'exact = place_of_file(cache, "x", file)',
+         ("server/bin/index-uncache", 'front = f"/files/{project}/"', 'front = f"/file/{project}/"'),
+         also=["test_other_spellings_are_the_same_file", "test_all_files_of_a_project_go_at_once",
+               "test_a_file_that_is_not_there_ends_with_status_1_and_tells_the_others"])
+@catches("server/bin/index-uncache", "os.remove(path)", "os.stat(path)",
+         also=["test_all_files_of_a_project_go_at_once"])
 def test_nginx_has_a_banned_file_until_it_is_taken_out(cached, uncache):
     assert_reply(cached.ask("GET", BANNED), 200, None, b"new")
     assert_ends(uncache("frob", "frob-8.0.tar.gz"), 0, f"removed {BANNED}\n")
     assert_reply(cached.ask("GET", BANNED), 404, None, b"NoFile")
 
 
+@catches("server/bin/index-uncache", "return 0 if wanted else 1", "return 0")
 @pytest.mark.told("`index-uncache` finds nothing")
 def test_a_file_that_is_not_there_ends_with_status_1_and_tells_the_others(uncache, looked):
     ended = uncache("frob", "frob-8.tar.gz")
@@ -42,11 +51,14 @@ def test_a_file_that_is_not_there_ends_with_status_1_and_tells_the_others(uncach
     looked("removed" not in ended.stdout, ended.stdout)
 
 
+@catches("server/bin/index-uncache", "from package_index.names import normal", "normal = str")
 def test_other_spellings_are_the_same_file(uncache):
     ended = uncache("FROB", "https://x/files/frob/Frob-8.1%2bfix.1.tar.gz")
     assert_ends(ended, 0, f"removed /files/frob/{OTHERS[0]}\n")
 
 
+@catches("server/bin/index-uncache", 'if "/" in name:', "if not name:",
+         also=["server/test_unit_health.py::test_a_file_or_all_of_a_project_are_taken_out"])
 def test_an_address_alone_is_enough(cached, uncache):
     assert_ends(uncache(BANNED), 0, f"removed {BANNED}\n")
     assert_reply(cached.ask("GET", BANNED), 404, None, b"NoFile")
@@ -59,6 +71,8 @@ def test_all_files_of_a_project_go_at_once(cached, uncache):
     assert [cached.ask("GET", f"/files/frob/{file}")[0] for file in OTHERS[1:]] == [404, 404]
 
 
+@catches("server/bin/index-uncache",
+         '''raise FileNotFoundError(f"{words.cache} is not there; name nginx's folder by --cache")''', "pass")
 @pytest.mark.told("`index-uncache` finds nothing")
 def test_a_folder_that_is_not_there_is_told(cached, uncache):
     assert_ends(uncache("frob", cache=f"{cached.folder}/none"), 2, "is not there")

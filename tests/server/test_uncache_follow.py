@@ -7,6 +7,7 @@ from contextlib import contextmanager
 import pytest
 from support.library import ends, followed
 from support.places import BIN, SERVER
+from support.planted import catches
 from support.programs import program_of
 from support.running import run_command
 from support.server.caches import make_cache
@@ -59,6 +60,9 @@ def wait_until_gone(front, *files):
     assert wait_for(lambda: all(is_gone(front, file) for file in files))
 
 
+@catches("server/bin/index-uncache-follow", "            take_out(removed, words.cache)", "            pass")
+@catches("server/bin/index-uncache-follow", 'if said["method"] == "DELETE":', 'if said["method"] == "PATCH":',
+         also=["test_a_line_says_what_is_gone"])
 def test_a_ban_a_delete_and_a_prohibition_take_files_out(cached):
     with following(cached):
         ban(cached, FILES[0])
@@ -79,6 +83,9 @@ def test_what_a_client_asked_for_that_is_gone_is_taken_out_too(cached, kept_inde
         wait_until_gone(cached, FILES[1])
 
 
+@catches("server/bin/index-uncache-follow",
+         '    return status == 200 or isinstance(status, int) and status >= 500 and said.get("reached") is True',
+         "    return status == 200", also=["test_a_change_without_an_answer_is_taken_out_if_an_index_got_it"])
 def test_what_an_index_got_that_was_killed_is_taken_out_too(cached, kept_index):
     """nginx can't know whether the index made the change. One that no index got takes nothing out."""
     lines = len(cached.changes())
@@ -102,6 +109,8 @@ def test_without_it_nginx_keeps_what_is_banned(cached):
     assert not is_gone(cached, FILES[0])
 
 
+@catches("server/lib/package_index/followed.py", "            log.seek(place.read)",
+         "            log.seek(0, os.SEEK_END)", also=["test_a_place_that_is_gone_or_spoilt_has_all_logs_read"])
 def test_what_came_while_it_was_killed_is_taken_out_too_also_over_a_rotation(cached):
     log = f"{cached.folder}/index-changes.log"
     with following(cached, "0") as runs:
@@ -120,6 +129,7 @@ def test_what_came_while_it_was_killed_is_taken_out_too_also_over_a_rotation(cac
         wait_until_gone(cached, *FILES[1:])
 
 
+@catches("server/lib/package_index/followed.py", "is_last = is_followed_by(path, log)", "is_last = False")
 def test_a_rotation_is_followed_and_a_line_that_nginx_still_writes_into_the_old_log_is_read(cached):
     log = f"{cached.folder}/index-changes.log"
     with following(cached):
@@ -135,6 +145,8 @@ def test_a_rotation_is_followed_and_a_line_that_nginx_still_writes_into_the_old_
         wait_until_gone(cached, FILES[1])
 
 
+@catches("server/lib/package_index/followed.py", "!= os.fstat(log.fileno()).st_ino and newer.st_size > 0",
+         "!= os.fstat(log.fileno()).st_ino")
 def test_an_old_log_is_read_until_another_is_written_into(tmp_path):
     log = tmp_path / "log"
     log.write_text("1\n")
@@ -155,6 +167,8 @@ def test_an_old_log_is_read_until_another_is_written_into(tmp_path):
     found.close()
 
 
+@catches("server/bin/index-uncache-follow", "            take_out(again.popleft().words, words.cache)",
+         "            again.popleft()")
 def test_the_second_time_is_for_a_reply_that_was_under_way(monkeypatch, tmp_path):
     taken, now = [], [100.0]
     line = json.dumps({"status": 200, "method": "DELETE", "path": "/files/a/a-1.zip", "body": ""})
@@ -175,6 +189,8 @@ def test_the_second_time_is_for_a_reply_that_was_under_way(monkeypatch, tmp_path
     assert (tmp_path / "removed").read_text() == f"{line}\n"
 
 
+@catches("server/bin/index-uncache-follow", "safe = again[0].before if again else place",
+         "safe = None if again else place")
 def test_its_place_moves_on_while_files_are_still_to_be_taken_out_once_more(monkeypatch, tmp_path):
     """So one that removes for hours does not seem to hang; and a run that follows takes out again what this did not."""
     line = json.dumps({"status": 200, "method": "DELETE", "path": "/files/a/a-1.zip", "body": ""})
@@ -195,6 +211,8 @@ def test_its_place_moves_on_while_files_are_still_to_be_taken_out_once_more(monk
     assert kept == [(106.0, 1), (109.0, 2)]
 
 
+@catches("server/bin/index-uncache-follow", "except OSError as end:", "except AssertionError as end:")
+@catches("server/bin/index-uncache-follow", "raise Refused(fault)", "pass")
 def test_a_full_disk_keeps_nothing_in_the_cache_and_is_told_before_the_place_is_kept(monkeypatch, tmp_path):
     lines = [json.dumps({"status": 200, "method": "DELETE", "path": f"/files/a/a-{it}.zip"}) for it in "123"]
     read = [(line, followed.Place(1, 9, "0")) for line in [*lines, "", ""]]
@@ -235,6 +253,11 @@ def test_a_change_without_an_answer_is_taken_out_if_an_index_got_it(status, more
     assert FOLLOW.removed_by(line) == (["a", "a-1.zip"] if is_gone else [])
 
 
+@catches("server/bin/index-uncache-follow",
+         "    return words if all(isinstance(it, str) and PLAIN.fullmatch(it) for it in words) else []",
+         "    return words", also=["test_a_path_of_no_file_takes_nothing_out"])
+@catches("server/bin/index-uncache-follow", "    except (KeyError, TypeError, AttributeError, RecursionError):",
+         "    except (KeyError, TypeError, AttributeError):")
 @pytest.mark.parametrize("body", [
     '{"do":"prohibit","name":"a/b"}', '{"do":"prohibit","name":7}', '{"do":"prohibit","name":["a"]}',
     r'{"do":"prohibit","name":"\u0000"}', r'{"do":"ban_file","file":"a\ud800-1.tar.gz"}',
@@ -252,6 +275,7 @@ def test_a_path_of_no_file_takes_nothing_out(path):
     assert FOLLOW.removed_by(line) == []
 
 
+@catches("server/bin/index-uncache-follow", "{line.strip()[:MOST_SHOWN]}", "{line.strip()}")
 def test_a_line_that_can_not_be_read_is_told_without_a_body(capsys):
     """It may have said what is to go out, and has the digest of a token."""
     line = json.dumps({"at": "x", "status": 200, "method": "POST", "path": "/requests" + "x" * 99, "body": "digest"})
@@ -259,6 +283,7 @@ def test_a_line_that_can_not_be_read_is_told_without_a_body(capsys):
     assert capsys.readouterr().err == f"index-uncache-follow: passed over, since it can't be read: {line[:120]}\n"
 
 
+@catches("server/bin/index-uncache-follow", "    if ended.returncode > 1:", "    if ended.returncode > 2:")
 @pytest.mark.told("`index-uncache-follow` can't read or write")
 def test_a_file_that_can_not_be_taken_out_is_told_and_tried_again(tmp_path):
     """As one of another user: the place stays before the line."""
@@ -277,6 +302,7 @@ def test_a_file_that_can_not_be_taken_out_is_told_and_tried_again(tmp_path):
     assert not (tmp_path / "place").exists()
 
 
+@catches("server/bin/index-uncache-follow", "or len(words) == 2 and not is_there(", "or not words and not is_there(")
 def test_a_file_that_nginx_does_not_keep_is_not_looked_for(tmp_path, monkeypatch):
     """It may keep many, and that takes seconds."""
     cache = make_cache(str(tmp_path / "cache"), [("frob", "frob-1.zip")])

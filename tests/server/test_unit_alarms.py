@@ -4,6 +4,7 @@ import types
 
 import pytest
 from support.library import two_machines
+from support.planted import catches
 from support.programs import program_of
 
 ALARMS = program_of("index-alarms")
@@ -80,6 +81,9 @@ def test_restarts_are_whole_numbers_by_their_units(monkeypatch):
     assert found == {"index.service": 2, "index@1.service": 0} and {*map(type, found.values())} == {int}
 
 
+@catches("server/bin/index-alarms", "() if index_is_elsewhere() else", "", case="True-False-kinds0")
+@catches("server/lib/package_index/two_machines.py", "is_shared() and not os.path.ismount(FOLDER)", "is_shared()",
+         case="True-True-kinds1")
 @pytest.mark.parametrize("is_shared, is_mounted, kinds", [
     (True, False, []), (True, True, ["backup"]), (False, False, ["backup"]), (False, True, ["backup"])])
 def test_a_late_backup_is_told_where_the_index_is(monkeypatch, tmp_path, is_shared, is_mounted, kinds):

@@ -8,6 +8,7 @@ import pytest
 from support.library import ends as library_ends
 from support.library import disk, exchange
 from support.places import TOP
+from support.planted import catches
 from support.programs import program_of
 from support.unit import calls, ends, raises, with_time
 
@@ -134,6 +135,7 @@ def test_the_oldest_copies_go_and_parts_of_a_run_that_was_killed(tmp_path, monke
     assert sorted(os.listdir(tmp_path / "copies")) == [*left, "index-20260102T030405Z.db"]
 
 
+@catches("server/lib/package_index/disk.py", "        sync(os.path.dirname(path))", "        pass")
 def test_a_copy_is_on_the_disk_before_an_old_one_goes(tmp_path, monkeypatch):
     os.mkdir(tmp_path / "copies")
     (tmp_path / "copies" / "index-20250101T000000Z.db").touch()
@@ -157,6 +159,8 @@ def test_no_copy_is_removed_while_one_of_a_later_time_is_there(tmp_path, monkeyp
     assert sorted(os.listdir(tmp_path / "copies")) == sorted([*before, made])
 
 
+@catches("server/bin/index-backup", 'if name.endswith(end) and COPY.fullmatch(f"{name[:-len(end)]}.db")]',
+         "if name.endswith(end)]")
 def test_a_file_that_a_person_named_is_no_copy_of_a_later_time_and_stays(tmp_path, monkeypatch):
     os.mkdir(tmp_path / "copies")
     (tmp_path / "copies" / "index-mine.db").touch()
@@ -195,6 +199,7 @@ def test_a_database_that_is_not_there_is_told(tmp_path, monkeypatch, capsys):
     assert (status, out) == (1, "") and "index-backup: " in err and "none.db" in err
 
 
+@catches("server/bin/index-backup", '    with alone(folder, "index-backup"):', "    if folder:")
 def test_a_second_backup_at_the_same_time_is_refused_and_takes_no_part_away(tmp_path, monkeypatch, capsys):
     """Two that began in one second had one name: the first could keep a copy without its log."""
     part = tmp_path / "index-20260101T000000Z.part-wal"
@@ -204,6 +209,8 @@ def test_a_second_backup_at_the_same_time_is_refused_and_takes_no_part_away(tmp_
     assert status == 1 and f"{tmp_path}: another index-backup is at work there" in err and part.exists()
 
 
+@catches("server/lib/package_index/exchange.py", "        except BlockingIOError:", "        except OSError:",
+         also=["server/test_unit_reseal.py::test_a_folder_that_can_t_be_locked_takes_a_new_file_all_the_same"])
 @pytest.mark.parametrize("end", [OSError(9, "a folder on NFS"), OSError(38, "no locks")])
 def test_a_folder_that_can_t_be_locked_takes_copies_all_the_same(tmp_path, monkeypatch, end):
     monkeypatch.setattr(exchange.fcntl, "flock", raises(end))

@@ -11,6 +11,7 @@ import sys
 import pytest
 from support.library import changes, copies
 from support.places import TOP
+from support.planted import catches
 
 UTC = datetime.timezone.utc
 
@@ -48,6 +49,8 @@ def test_changes_come_oldest_first_from_rotated_logs(tmp_path):
     assert "passed on 3 of" in changes.changes_since([str(log)], later, str(tmp_path / "made"))
 
 
+@catches("server/lib/package_index/changes.py", "(late if self.first > self.since else [])", "[]",
+         case="torn-since2-2026-01-17 00:00:00")
 @pytest.mark.parametrize("first, since, begins", [
     ('{"at":"2026-01-15T00:00:00+02:00"}', (2026, 1, 1), "2026-01-14 22:00:00"),
     ('{"at":"2026-01-15T00:00:00+00:00"}', (2026, 1, 15), ""), ("torn", (2026, 1, 16), "2026-01-17 00:00:00"),
@@ -61,6 +64,7 @@ def test_a_log_that_begins_after_the_copy_may_lack_what_came_before(tmp_path, fi
     assert said.endswith(f"oldest first.{wanted}")
 
 
+@catches("server/lib/package_index/changes.py", "if not self.first:", "if not self.first and self.path == self.since:")
 @pytest.mark.parametrize("text", ["", "torn\n"])
 @pytest.mark.told("a restore finds no line in the log of changes")
 def test_a_log_without_a_line_says_that_changes_are_elsewhere(tmp_path, text):
@@ -72,6 +76,8 @@ def test_a_log_without_a_line_says_that_changes_are_elsewhere(tmp_path, text):
                          "of another machine.")
 
 
+@catches("server/lib/package_index/changes.py", "return (late if self.first > self.since else []) + back",
+         "return late if self.first > self.since else []", case="moments0-told0")
 @pytest.mark.parametrize("moments, told", [
     (["03:16", "03:20", "02:25", "02:30"], ["02:25"]), (["03:10", "02:25", "03:16"], ["02:25"]),
     (["03:16", "02:15", "03:17", "02:16"], ["02:15", "02:16"]), (["03:10", "03:09"], []), (["03:20", "03:16"], []),
@@ -89,6 +95,10 @@ def test_changes_of_after_a_clock_that_was_set_back_may_seem_older_than_the_copy
     assert found == told, said
 
 
+@catches("server/lib/package_index/changes.py", "if self.uploaded - it.before <= SLACK]", "if self.uploaded]",
+         case='30T10:00:00-"status":201,"method":"PUT"-False')
+@catches("server/lib/package_index/changes.py", "if self.uploaded - it.before <= SLACK]", "if not self.uploaded]",
+         case='01T03:10:00-"status":201,"method":"PUT"-True')
 @pytest.mark.parametrize("uploaded, last, is_told", [
     ("30T10:00:00", '"status":201,"method":"PUT"', False), ("30T10:00:59", '"status":201,"method":"PUT"', False),
     ("30T10:00:00", '"status":200,"method":"POST","path":"/legacy/"', False),
@@ -115,6 +125,7 @@ def test_a_clock_that_was_set_back_before_the_copy_was_made_is_not_told(tmp_path
     assert (" was set back to 2026-01-01 02:25:00 UTC" in said) is is_told, said
 
 
+@catches("server/lib/package_index/changes.py", 'OTHER = ".xz",', 'OTHER = ".none",')
 def test_a_log_that_is_compressed_otherwise_is_told(tmp_path):
     (tmp_path / "changes.log").write_text('{"at":"2026-01-17T00:00:00+00:00"}\n')
     (tmp_path / "changes.log.1.xz").write_bytes(b"\xfd7zXZ\n\n")
@@ -124,6 +135,9 @@ def test_a_log_that_is_compressed_otherwise_is_told(tmp_path):
     assert said.startswith("nginx passed on 1 of them.") and told in said
 
 
+@catches("server/lib/package_index/changes.py",
+         "made.writelines(line for _, line in heapq.merge(*(it.lines() for it in read), key=lambda it: it[0]))",
+         "made.writelines([line for _, line in heapq.merge(*(it.lines() for it in read), key=lambda it: it[0])])")
 @pytest.mark.slow
 def test_logs_of_any_length_are_gathered_in_little_memory(tmp_path):
     """Two of 32 MB each."""
@@ -143,6 +157,9 @@ print("", int(re.findall("VmHWM:\\s*(\\d+) kB", open("/proc/self/status").read()
     assert int(ended.stdout.split()[-1]) < 60, ended.stdout
 
 
+@catches("server/lib/package_index/changes.py", "heapq.merge(*(it.lines() for it in read), key=lambda it: it[0]))",
+         "(each for it in read for each in it.lines()))",
+         also=["server/test_restores.py::TestChangesSince::test_each_nginx_has_a_log_of_its_own"])
 def test_changes_of_several_fronts_come_oldest_first(tmp_path):
     at = '{{"body":"{}","at":"2026-01-01T00:00:0{}+0{}:00"}}\n'.format
     fifth = '{"body":"fifth"}'
@@ -156,6 +173,8 @@ def test_changes_of_several_fronts_come_oldest_first(tmp_path):
     assert said.startswith("nginx passed on 6 of them") and f"\n   There is no {tmp_path}/none.log. Look" in said
 
 
+@catches("server/lib/package_index/changes.py", "heapq.merge(*(it.lines() for it in read), key=lambda it: it[0]))",
+         "sorted(each for it in read for each in it.lines()))")
 def test_logs_of_several_fronts_keep_their_own_order_within_a_second_and_a_torn_line_its_place(tmp_path):
     at = '{{"at":"2026-01-01T00:00:0{}+00:00","body":"{}"}}\n'.format
     (tmp_path / "one.log").write_text(at(1, "d") + at(2, "f") + at(2, "c") + at(3, "torn")[:30])

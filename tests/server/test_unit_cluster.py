@@ -10,6 +10,7 @@ import xml.etree.ElementTree as ElementTree
 import pytest
 from support.needed import want_command
 from support.places import BIN, SERVER
+from support.planted import catches
 from support.running import run_command
 from support.server.cluster import DUMPED, FILE, STATE, Cluster, cib, switch
 from support.server.stand_ins import called, stand_ins
@@ -52,6 +53,7 @@ def test_a_configuration_with_a_switch_for_each_machine_is_loaded_again_and_agai
         looked(cluster.live() == cluster.made, cluster.live())
 
 
+@catches("server/bin/index-cluster", 'and it.get("type") not in NO_SWITCH:', 'and it.get("type") != "none":')
 @pytest.mark.parametrize("switches, lacks", [
     ("", "one, two"), (switch("one"), "two"), (switch("two"), "one"), (switch("one two", type="null"), "one, two"),
     (switch("one two", type="external/null"), "one, two"), (switch("one two", type="fence_dummy"), "one, two"),
@@ -71,6 +73,7 @@ def test_a_switch_may_be_of_one_machine_or_of_both(cluster, switches):
     assert cluster.run().returncode == 0
 
 
+@catches("server/bin/index-cluster", '    ("stonith-enabled", NO, "takes', '    ("stonith-enabled", (), "takes')
 @pytest.mark.parametrize("name, value, said", [
     *(("stonith-enabled", value, "is only silent") for value in ("false", "no", "off", "0", "False", "n")),
     ("startup-fencing", "false", "has not seen"), ("no-quorum-policy", "ignore", "starts alone")])
@@ -80,6 +83,7 @@ def test_a_property_that_lets_both_serve_is_refused_and_named(cluster, name, val
     assert f"`{name}={value}`" in found and said in found
 
 
+@catches("server/bin/index-cluster", "    found = wrong_of_drbd(dumped) + wrong_of(", "    found = wrong_of(")
 @pytest.mark.parametrize("old, new, said", [
     ("/etc/drbd.d/index-fence-crm", "/etc/drbd.d/index-fence", "lacks `fence-peer /etc/drbd.d/index-fence-crm`"),
     ("/etc/drbd.d/index-fence-crm", "/usr/lib/drbd/crm-fence-peer.sh", "lacks `fence-peer"),
@@ -102,6 +106,7 @@ def test_other_machines_than_those_of_drbd_are_refused(cluster, nodes):
     assert f"Pacemaker knows {', '.join(sorted(nodes)) or 'no machine'}, and DRBD one, two" in refused(cluster)
 
 
+@catches("server/bin/index-cluster", "    if found:", "    if found and len(found) > 9:")
 def test_a_file_of_another_disk_is_refused(cluster):
     cluster.put(made=cib(switch("one two")).replace('value="index"', 'value="other"'))
     assert "nothing in it has the disk index" in refused(cluster)
@@ -114,6 +119,7 @@ def test_a_place_that_was_not_filled_is_refused_and_one_in_a_comment_is_not(clus
         assert (ended.returncode, "CHANGE-ME" in ended.stdout) == (status, bool(status)), ended
 
 
+@catches("server/bin/index-cluster", "    if lacking:", "    if lacking and not machines:")
 def test_each_part_that_is_wrong_is_named(cluster):
     cluster.put(made=cib("", ["one"], **{"stonith-enabled": "false"}), dumped=DUMPED.replace("index-fence-crm", "x"))
     said = refused(cluster)
@@ -155,6 +161,9 @@ def test_a_configuration_that_pacemaker_does_not_take_is_shown(cluster):
     assert (ended.returncode, cluster.live()) == (1, cluster.before) and "no luck" in ended.stdout, ended
 
 
+@catches("server/bin/index-cluster", "        if time.monotonic() > until:", "        if time.monotonic() > 0:",
+         ("server/bin/index-cluster", '            raise Refused(f"{switch} does',
+          '            return print(f"{switch} does'))
 @pytest.mark.parametrize("two", [
     "", STATE.format("two", "Stopped", "false"), STATE.format("two", "Starting", "false"),
     STATE.format("two", "Started", "true"), STATE.format("two-b", "Started", "false")],
@@ -177,6 +186,10 @@ def operation(name, call, code, status, id=""):
 PROBED, STARTED = operation("monitor", 1, 7, 0), operation("start", 2, 0, 0)
 
 
+@catches("server/bin/index-cluster", """'role="Started"' in row and""", """'active="true"' in row and""", case="asked",
+         also=["test_a_switch_that_does_not_answer_pacemaker_is_named[asked]"])
+@catches("server/bin/index-cluster", ''' and 'failed="false"' in row''', "", case="refused",
+         also=["test_a_switch_that_does_not_answer_pacemaker_is_named[failed]"])
 @pytest.mark.parametrize("operations, answers", [
     ("", False), (PROBED, False), (PROBED + operation("start", -1, 193, -1), False), (PROBED + STARTED, True),
     (PROBED + operation("start", 2, 1, 4), False), (PROBED + operation("start", 2, 1, 2), False),

@@ -6,6 +6,7 @@ import re
 import pytest
 from support.library import counted
 from support.places import TOP
+from support.planted import catches
 from support.programs import program_of
 from support.unit import ends, raises
 
@@ -41,6 +42,8 @@ def test_the_kinds_are_the_requests_of_the_page():
     assert {*counted.ASKED, "upload", "delete"} == asked
 
 
+@catches("server/lib/package_index/counted.py", 'KIND_OF.get(do, "other")', "KIND_OF.get(do, str(do))",
+         case="more3-other")
 @pytest.mark.parametrize("more, kind", [
     ({}, "claim"), ({"body": ' {\n"name" : "frob", "do"\t:\n"ban_file" }'}, "ban_file"),
     ({"body": '{"do":"ba\\u006e_file"}'}, "ban_file"), ({"body": '{"do":"mine"}'}, "other"), ({"body": ""}, "other"),
@@ -51,6 +54,7 @@ def test_a_change_is_of_the_kind_that_it_asks_for(log, more, kind):
     assert counts(log(line(**more))).changes == {kind: {"200": 1}}
 
 
+@catches("server/lib/package_index/counted.py", r'"body":"(?:\{ *\\"do\\": *', r'"body":"(?:\{\\"do\\":')
 @pytest.mark.parametrize("more", [
     {}, {"body": '{ "do": "claim"}'}, {"body": '{"name":"frob","do":"claim"}'}, {"body": '{"do":"x"}'},
     {"body": '{"do":"claim'}, {"body": ""},
@@ -68,6 +72,8 @@ def test_a_usual_line_is_read_quickly_as_another_is_slowly(more):
     assert counted.quickly_read(usual.encode()) == counted.slowly_read(usual.encode()) == counted.quickly_read(other)
 
 
+@catches("server/lib/package_index/counted.py", "ALWAYS = 200, 401, 500", "ALWAYS = 200, 401",
+         also=["server/test_unit_prometheus.py::test_what_is_written_keeps_to_the_format"])
 def test_changes_are_counted_by_kind_and_status_from_run_to_run(log):
     first = counts(log(line(), line(status=404), line(status=404)))
     path = log(line(), line(method="PUT", status=500))

@@ -4,6 +4,7 @@ import os
 import pytest
 from support.library import database, exchange
 from support.library import ends as library_ends
+from support.planted import catches
 from support.unit import raises
 
 Refused = library_ends.Refused
@@ -32,6 +33,9 @@ def test_an_exchange_keeps_all_old_files_and_takes_the_database_first(tmp_path, 
     assert (tmp_path / "aside").stat().st_mode & 0o777 == 0o700
 
 
+@catches("server/lib/package_index/exchange.py", "    with suppress(OSError):",
+         "    shutil.rmtree(aside); os.mkdir(aside)",
+         ("server/lib/package_index/exchange.py", "        sync(os.path.dirname(db))", "    sync(os.path.dirname(db))"))
 def test_names_that_come_back_are_on_the_disk_before_the_others_go(tmp_path, monkeypatch):
     """After a loss of power in between, the old database would have no name at all."""
     aside, order = tmp_path / "aside", []

@@ -7,6 +7,7 @@ import os
 
 import pytest
 from support.library import changes, followed
+from support.planted import catches
 from support.unit import raises, with_time
 
 
@@ -36,6 +37,8 @@ def test_only_logs_that_were_rotated_away_since_are_read(tmp_path, known, lines)
     assert [it.strip() for it in followed.rotated_since(str(tmp_path / "x.log"), inode)] == lines
 
 
+@catches("server/lib/package_index/log_place.py", "if os.path.isfile(it)), key=lambda it: age(log, it))",
+         "if os.path.isfile(it)), key=os.path.getmtime)")
 @pytest.mark.parametrize("known, lines", [("x.log.2", ["c"]), ("x.log-20260101", ["a", "c"]), ("x.log.1", [])])
 def test_what_was_rotated_away_after_the_clock_was_set_back_is_read(tmp_path, known, lines):
     """What was written last is the oldest then. A log that logrotate names by its date has no number."""
@@ -60,6 +63,11 @@ def test_a_log_is_read_from_its_place_on_though_it_was_rotated_away(tmp_path, at
     assert followed.left_at(str(tmp_path / "x.log"), None) is None
 
 
+@catches("server/lib/package_index/followed.py", "if not REFUSED.search(line):", "if line:",
+         ("server/lib/package_index/log_place.py", "return found[1] if found else LOG", "return LOG"),
+         also=["server/test_unit_log_place.py::test_the_log_is_where_nginx_writes_it",
+               "server/test_unit_log_setting.py::test_the_follower", "server/test_unit_log_setting.py::test_the_alarms",
+               "server/test_unit_log_setting.py::test_a_restore", "server/test_unit_log_setting.py::test_the_history"])
 def test_a_change_that_was_refused_takes_nothing_out_and_is_no_line(tmp_path):
     """But the place is behind it. Those of an attacker may be millions."""
     lines = [f'{{"status":{it},"body":"{{}}"}}\n' for it in (200, 401, 403, 500, 404)]
@@ -91,6 +99,8 @@ def lines_until_a_wait(monkeypatch, found):
     return lines
 
 
+@catches("server/lib/package_index/followed.py", "        if digest_at(log, place.read) == place.digest:",
+         "        if os.stat(each).st_ino == place.inode:")
 @pytest.mark.parametrize("old, lines", [("x.log.2", "bqcde"), ("x.log.2.gz", "abqcde")])
 def test_a_new_log_with_the_inode_of_an_old_one_is_read_from_its_start(monkeypatch, tmp_path, old, lines):
     """ext4 gives the inode of a log that logrotate compressed to the next one. All of a compressed one is read."""
@@ -106,6 +116,8 @@ def test_a_new_log_with_the_inode_of_an_old_one_is_read_from_its_start(monkeypat
     assert lines_until_a_wait(monkeypatch, followed.lines_from(str(log), place)) == list(lines)
 
 
+@catches("server/lib/package_index/followed.py", "        if digest_at(log, place.read) != place.digest:",
+         "        if os.fstat(log.fileno()).st_size < place.read:")
 def test_a_log_that_was_copied_and_emptied_loses_no_line(monkeypatch, tmp_path):
     """logrotate's copytruncate: the copy has a line that was not read yet, and the log is as long as before again."""
     log, copy = tmp_path / "x.log", tmp_path / "x.log.1"
@@ -134,6 +146,8 @@ def damaged(request, tmp_path, chance):
     return str(tmp_path / "x.log")
 
 
+@catches("server/lib/package_index/changes.py", "        except (EOFError, zlib.error, gzip.BadGzipFile) as end:",
+         "        except KeyError as end:", also=["test_a_damaged_log_is_followed_by_the_next"])
 def test_a_damaged_log_is_told_and_loses_no_other_line(damaged, tmp_path):
     since = datetime.datetime(2026, 11, 1, tzinfo=datetime.timezone.utc)
     said = changes.changes_since([damaged], since, f"{tmp_path}/made").split("\n   ")

@@ -7,6 +7,7 @@ from http.server import BaseHTTPRequestHandler, HTTPServer
 
 import pytest
 from support.library import ends, followed, front, fronts
+from support.planted import catches
 from support.proxy import InThread
 from support.unit import calls, with_time
 
@@ -26,6 +27,7 @@ def test_a_place_is_kept_and_one_that_is_spoilt_is_none(tmp_path):
         assert followed.place_in(path, fronts.Place) is None
 
 
+@catches("server/lib/package_index/fronts.py", r'("" if is_whole else "\n")', r'("" if path else "\n")')
 def test_a_line_is_whole_behind_one_that_a_full_disk_cut_off(tmp_path):
     path = tmp_path / "removed"
     fronts.begin_list(str(path))
@@ -46,6 +48,9 @@ def test_a_new_list_is_on_the_disk(tmp_path, monkeypatch):
     assert synced == [(str(tmp_path),)]
 
 
+@catches("server/lib/package_index/fronts.py", "os.fsync(kept.fileno())", "pass",
+         also=["storage/test_power_cuts.py::"
+               "test_a_power_cut_leaves_what_was_answered[ext4-follow_whose_place_may_be_lost]"])
 def test_a_line_is_on_the_disk_before_it_is_done(tmp_path, monkeypatch):
     synced = calls(monkeypatch, fronts.os, "fsync", lambda _: (tmp_path / "removed").read_text())
     fronts.add_line(str(tmp_path / "removed"), "a")

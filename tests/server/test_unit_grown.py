@@ -9,6 +9,7 @@ import sys
 import pytest
 from support.library import followed, grown, tallies
 from support.places import BIN
+from support.planted import catches
 from support.server.stand_ins import stand_ins
 
 MIB = 1 << 20
@@ -72,6 +73,8 @@ class Reader:
             self.place, self.seen = place, self.seen + [int(it.split()[1]) for it in seen]
 
 
+@catches("server/lib/package_index/grown.py", "begin = each.seek(place.read if place and each is left[0] else 0)",
+         "begin = each.tell()")
 @pytest.mark.parametrize("trial", range(12))
 def test_each_line_is_read_once_over_rotations_and_killed_runs(tmp_path, chance, trial):
     log = Log(tmp_path)
@@ -88,6 +91,8 @@ def test_each_line_is_read_once_over_rotations_and_killed_runs(tmp_path, chance,
     assert reader.seen == list(range(1, log.number + 1)), done
 
 
+@catches("server/lib/package_index/grown.py",
+         "if [inode_of(it) for it in files] == [os.stat(it).st_ino for it in rotated(log)]:", "if files:")
 @pytest.mark.parametrize("is_compressed", [False, True])
 @pytest.mark.parametrize("at", range(4))
 def test_a_rotation_between_two_steps_of_a_run_loses_no_line(tmp_path, monkeypatch, at, is_compressed):
@@ -129,6 +134,7 @@ def test_a_log_that_is_rotated_at_each_look_is_told(tmp_path, monkeypatch):
         Reader(log).read()
 
 
+@catches("server/lib/package_index/grown.py", "room -= len(line)", "room -= 0")
 def test_of_a_long_log_a_run_reads_a_part_and_the_next_one_goes_on(tmp_path, monkeypatch):
     log = Log(tmp_path)
     reader, runs = Reader(log), 0
@@ -144,6 +150,7 @@ def test_of_a_long_log_a_run_reads_a_part_and_the_next_one_goes_on(tmp_path, mon
     assert runs > 5 and reader.seen == list(range(1, 201))
 
 
+@catches("server/lib/package_index/followed.py", 'iter(lambda: log.readline(LONGEST), b"")', 'iter(log.readline, b"")')
 @pytest.mark.parametrize("has_end", [False, True])
 def test_what_is_longer_than_a_line_of_nginx_is_passed_over_piece_by_piece(tmp_path, monkeypatch, has_end):
     """As the zeros that a loss of power leaves. Without an end it is not read again by each run."""
@@ -205,6 +212,9 @@ def peak_and_read(path, name, *words):
     return int(peak), int(read)
 
 
+@catches("server/lib/package_index/grown.py", "if not is_old and is_at(log, place):",
+         "if is_old and is_at(log, place):", case="index-alarms",
+         also=["test_each_line_is_read_once_over_rotations_and_killed_runs"])
 @pytest.mark.slow
 @pytest.mark.parametrize("name", ["index-alarms", "index-metrics"])
 def test_a_large_log_is_read_once_in_little_memory(large, tmp_path, name):

@@ -10,6 +10,7 @@ from contextlib import contextmanager
 import pytest
 from support.library import cache as places
 from support.library import disk
+from support.planted import catches
 from support.programs import program_of
 from support.unit import calls, ends, raises, with_time
 
@@ -121,6 +122,10 @@ def test_a_folder_that_is_not_there_is_passed_over_and_one_that_can_not_be_looke
         HEALTH.look_at_room(["/a"], 0)
 
 
+@catches("server/bin/index-health", "elif files_left(folder) < FILES:", "elif files_left(folder) < 0:",
+         case="5000-999-9")
+@catches("server/bin/index-health", 'return disk.f_favail if disk.f_files else float("inf")', "return disk.f_favail",
+         case="0-0-0")
 @pytest.mark.parametrize("bound, left, status", [(5_000, 999, 9), (5_000, 1_000, 0), (5_000, 0, 9), (0, 0, 0)])
 def test_a_disk_that_takes_no_more_files_is_told_though_it_has_room(tmp_path, monkeypatch, bound, left, status):
     """Clients get an empty reply for what nginx keeps. A file system such as btrfs has no bound."""

@@ -4,6 +4,7 @@ import time
 
 import pytest
 from support.library import replies
+from support.planted import catches
 from support.server.issuer import AUDIENCE, FILE, URL, Issuer, claims, identity, publishers, text_of
 
 BOTH = "RS256", "ES256"
@@ -109,6 +110,44 @@ CASES = {
 }
 
 
+@catches("server/lib/package_index/identity.py", "algorithms=[key.algorithm], issuer",
+         'algorithms=[str(head.get("alg"))], issuer', case="PS256",
+         also=["server/test_trusted_publishing.py::test_an_identity_token_is_refused_and_nothing_is_uploaded[PS256]"])
+@catches("server/lib/package_index/identity.py", 'key = keys.get(head.get("kid", ""))',
+         'key = keys.get(head.get("kid", ""), next(iter(keys.values())))', case="other kid",
+         also=["server/test_trusted_publishing.py::"
+               "test_an_identity_token_is_refused_and_nothing_is_uploaded[other kid]"])
+@catches("server/lib/package_index/identity.py", "issuer=issuer.url, audience",
+         'issuer=jwt.decode(token, options={"verify_signature": False}).get("iss"), audience', case="other issuer",
+         also=["test_a_token_is_refused[issuer with a slash]", "server/test_trusted_publishing.py::"
+               "test_an_identity_token_is_refused_and_nothing_is_uploaded[other issuer]"])
+@catches("server/lib/package_index/identity.py", "audience=audience,",
+         'audience=jwt.decode(token, options={"verify_signature": False}).get("aud"),', case="other audience",
+         also=["test_a_token_is_refused[audience within]", "server/test_trusted_publishing.py::"
+               "test_an_identity_token_is_refused_and_nothing_is_uploaded[other audience]"])
+@catches("server/lib/package_index/identity.py", 'options={"require": REQUIRED})',
+         'options={"require": REQUIRED, "verify_exp": False})', case="ended",
+         also=["server/test_trusted_publishing.py::test_an_identity_token_is_refused_and_nothing_is_uploaded[ended]"])
+@catches("server/lib/package_index/identity.py", 'options={"require": REQUIRED})',
+         'options={"require": REQUIRED, "verify_nbf": False, "verify_iat": False})', case="not yet by nbf",
+         also=["test_a_token_is_refused[not yet by iat]",
+               "server/test_trusted_publishing.py::test_an_identity_token_is_refused_and_nothing_is_uploaded[not yet]",
+               "server/test_trusted_publishing.py::"
+               "test_an_identity_token_is_refused_and_nothing_is_uploaded[made later]"])
+@catches("server/lib/package_index/identity.py", 'options={"require": REQUIRED})', 'options={"require": ["jti"]})',
+         ("server/lib/package_index/identity.py", '(claims["iat"], claims["exp"]), claims["jti"]',
+          '(claims["iat"], claims.get("exp", claims["iat"] + 9)), claims["jti"]'),
+         ("server/lib/package_index/trusted.py", 'claims["exp"] + LEEWAY', 'claims.get("exp", 0) + LEEWAY'),
+         case="no end",
+         also=["server/test_trusted_publishing.py::test_an_identity_token_is_refused_and_nothing_is_uploaded[no end]"])
+@catches("server/lib/package_index/identity.py", "if not 0 < times[1] - times[0] <= MOST_LIFE:", "if not times:",
+         case="more than a day",
+         also=["server/test_trusted_publishing.py::"
+               "test_an_identity_token_is_refused_and_nothing_is_uploaded[for years]"])
+@catches("server/lib/package_index/identity.py", 'if "crit" in head or str(head.get("typ", "JWT")).upper() != "JWT":',
+         "if not head:", case="an access token",
+         also=["server/test_trusted_publishing.py::"
+               "test_an_identity_token_is_refused_and_nothing_is_uploaded[an access token]"])
 @pytest.mark.parametrize("said, head, why", CASES.values(), ids=CASES)
 def test_a_token_is_refused(issuer, said, head, why):
     found = refusal(issuer, issuer.token(said_now(said), **head))
@@ -125,6 +164,15 @@ def test_a_token_that_was_changed_is_refused(issuer, at):
     assert refusal(issuer, ".".join(parts)).sentence.startswith(NOBODY)
 
 
+@catches("server/lib/package_index/identity.py", 'leeway=LEEWAY, options={"require": REQUIRED})',
+         'leeway=LEEWAY, options={"require": REQUIRED, "verify_signature": False})',
+         also=["test_a_token_that_was_changed_is_refused",
+               "server/test_trusted_publishing.py::test_the_key_of_another_signs_for_nobody",
+               "server/test_trusted_publishing.py::test_claims_that_were_changed_are_refused"])
+@catches("server/lib/package_index/identity.py", 'key = keys.get(head.get("kid", ""))',
+         'key = key_in({"kid": "", **head["jwk"]}, issuer.algorithms) if "jwk" in head else '
+         'keys.get(head.get("kid", ""))',
+         also=["server/test_trusted_publishing.py::test_the_key_of_another_signs_for_nobody"])
 def test_the_key_of_another_is_not_taken_though_the_token_brings_it_along(issuer, other):
     key = other.keys()["keys"][0]
     for head in ({}, {"jwk": key}, {"jku": "https://evil.example/keys"}, {"x5u": "https://evil.example/pem"},
@@ -132,6 +180,9 @@ def test_the_key_of_another_is_not_taken_though_the_token_brings_it_along(issuer
         assert refusal(issuer, other.token(**head)).sentence.startswith(NOBODY)
 
 
+@catches("server/lib/package_index/identity.py",
+         'if algorithm not in algorithms or not is_meant or not isinstance(made["kid"], str):',
+         'if not isinstance(made["kid"], str):', also=["test_keys_that_are_none_to_check_by_are_passed_over"])
 def test_an_algorithm_that_the_operator_left_out_is_refused(issuer):
     assert refusal(issuer, issuer.token(algorithm="ES256"), ("RS256",)).sentence.startswith(NOBODY)
     assert refusal(issuer, issuer.token(), ("ES256",)).sentence.startswith(NOBODY)
@@ -163,6 +214,7 @@ def test_the_keys_of_rfc_7517():
     assert {*identity.keys_in(RFC_7517.replace('"enc"', '"sig"'), BOTH)} == {"1", "2011-04-29"}
 
 
+@catches("server/lib/package_index/identity.py", "BITS = range(2048, 8193)", "BITS = range(512, 8193)")
 def test_keys_that_are_none_to_check_by_are_passed_over(issuer):
     rsa, curve = issuer.keys()["keys"]
     secret = {"kty": "oct", "kid": "k1", "alg": "HS256", "k": "c2VjcmV0"}

@@ -9,6 +9,7 @@ import types
 
 import pytest
 from support.clients.forms import BOUNDARY, END, field, form
+from support.planted import catches
 from support.programs import program_of
 from support.unit import raises, with_time
 
@@ -21,6 +22,7 @@ def basic(pair):
     return "Basic " + base64.b64encode(pair.encode()).decode()
 
 
+@catches("server/bin/index-legacy-upload", "token = token.strip()", "pass")
 @pytest.mark.parametrize("header, token", [
     (basic("__token__:abc"), "abc"), (basic("u:a:b"), "a:b"), (basic(":x"), "x"), (basic("u:a b"), "a b"),
     (" basic   " + basic("u:x").split()[1] + " ", "x"), (basic("u:!~"), "!~"), (basic("u: x"), "x"),
@@ -113,6 +115,7 @@ def test_a_form_has_4096_fields_at_most():
     assert refusal(field("x", b"") * 4097 + END) == (400, "the form has more than 4096 fields")
 
 
+@catches("server/lib/package_index/forms.py", 'or head.count(b";") > MOST_SEMICOLONS:', "or False:")
 @pytest.mark.parametrize("count, is_read", [(16, True), (17, False)])
 def test_the_head_of_a_field_has_16_semicolons_at_most(count, is_read):
     """Python reads it in a time that grows by their square: 4,096 heads took half a minute, without a known token."""
@@ -161,6 +164,8 @@ def upload(**changed):
     return LEGACY.Upload(fields(data))
 
 
+@catches("server/bin/index-legacy-upload", "if not is_requires_python(self.requires):", "if not self.file:",
+         also=["clients/test_uploads_by_forms.py::test_a_form_is_refused_and_the_index_is_not_asked"])
 @pytest.mark.parametrize("requires", ["3.8", "3.8 or later", ">=3.8 <4", ">=", "any"])
 def test_a_requires_python_that_clients_can_t_read_is_refused(requires):
     """Poetry and PDM would take no release of the project because of it."""

@@ -7,6 +7,7 @@ import time
 
 import pytest
 from support.clients.forms import asked, form, message
+from support.planted import catches
 from support.programs import program_of
 from support.unit import calls, ends, raises
 
@@ -52,6 +53,7 @@ def test_what_a_client_is_told(monkeypatch, capsys, answer, status, said):
     assert capsys.readouterr().err == f"{status[:3]} {WHEEL}\n"
 
 
+@catches("server/bin/index-legacy-upload", "elif path == PLACE:", "elif True:")
 @pytest.mark.parametrize("data, status", [
     (message(b"", method="GET"), "405 this address takes uploads by POST alone"),
     (message(form(WHEEL, DATA), Content_Length=None), "411"), (message(form(WHEEL, DATA), Content_Length="-1"), "411"),

@@ -14,6 +14,7 @@ from hypothesis import given
 from hypothesis import strategies as st
 from support.library import commands, database, disk, ends
 from support.places import SERVER
+from support.planted import catches
 
 MIB = 1 << 20
 
@@ -55,6 +56,8 @@ def test_a_copy_has_the_bytes_and_is_synced(tmp_path, monkeypatch):
     assert [os.path.getmtime(tmp_path / it) == 5 for it in "bc"] == [False, True]
 
 
+@catches("server/lib/package_index/disk.py", '    run("cp", "--reflink=auto", *options, source, target)',
+         '    run("cp", "--reflink=auto", *options, source, target); target = source')
 def test_what_was_written_is_synced_and_not_what_stands_beside_it(tmp_path, monkeypatch):
     synced, sync = [], os.fsync
     monkeypatch.setattr(os, "fsync", lambda it: (synced.append(os.fstat(it).st_ino), sync(it))[1])
@@ -217,6 +220,7 @@ def test_a_program_that_is_interrupted_tidies_up_and_dies_of_the_signal(number):
     assert (running.returncode, out, err) == (-number, "tidied\n", "it: stopped\n")
 
 
+@catches("server/lib/package_index/ends.py", "signal.signal(each, signal.SIG_IGN)", "pass")
 @pytest.mark.parametrize("number", [signal.SIGHUP, signal.SIGINT, signal.SIGTERM])
 def test_a_second_signal_does_not_interrupt_what_tidies_up(number):
     main = ("import os, time\ndef main():\n    try:\n        os.kill(os.getpid(), 15)\n    finally:\n"
@@ -240,6 +244,8 @@ def main():
 """
 
 
+@catches("server/lib/package_index/ends.py", "before = signal.pthread_sigmask(signal.SIG_BLOCK, SIGNALS)",
+         "before = signal.pthread_sigmask(signal.SIG_BLOCK, [])")
 @pytest.mark.parametrize("text, out", [
     (HELD, "goes on\nheld\ntidied\n"),
     (HELD.replace("with let_in()", "if True"), "goes on\nheld\ncomes too late\ntidied\n")], ids=["let_in", "held"])

@@ -5,11 +5,14 @@ import os
 
 import pytest
 from support.library import log_place
+from support.planted import catches
 from support.server.front import kept
 
 ELSEWHERE = "    access_log /srv/logs/changes.log index_changes if=$is_change;\n"
 
 
+@catches("server/lib/package_index/log_place.py", r"r'^\s*access_log", "r'access_log")
+@catches("server/lib/package_index/log_place.py", r"\s+index_changes\b'", r"\b'")
 @pytest.mark.parametrize("text, log", [
     (kept("packages.conf"), "/var/log/package-index/changes.log"), (ELSEWHERE, "/srv/logs/changes.log"),
     (ELSEWHERE.replace("/srv/logs/changes.log", '"/srv/logs/changes.log"'), "/srv/logs/changes.log"),
@@ -27,10 +30,13 @@ def test_what_is_no_text_hides_no_log(tmp_path):
     assert log_place.log_of_changes(str(tmp_path / "packages.conf")) == "/srv/logs/changes.log"
 
 
+@catches("server/lib/package_index/log_place.py", "except OSError:", "except ValueError:")
 def test_without_nginx_it_is_that_of_the_package(tmp_path):
     assert log_place.log_of_changes(str(tmp_path / "none")) == "/var/log/package-index/changes.log"
 
 
+@catches("server/lib/package_index/log_place.py", "    log = os.path.realpath(log)", "",
+         also=["server/test_rotation.py::test_what_was_rotated_away_is_found_by_the_name_of_before_too"])
 def test_what_was_rotated_away_is_beside_what_a_link_leads_to(tmp_path):
     """After an upgrade nginx may write by the name of before."""
     for folder, names in (("old", ["other.log", "changes.log.9"]),

@@ -6,6 +6,7 @@ from indexctl.commands import history
 from indexctl.ends import WRONG, Stop
 from support.indexctl.rows import args
 from support.library import log_place
+from support.planted import catches
 from support.programs import program_of
 from support.unit import calls, ends
 
@@ -21,6 +22,8 @@ def conf(tmp_path):
     return str(path)
 
 
+@catches("server/bin/index-uncache-follow", "words.log = words.log or log_of_changes(words.conf)",
+         "words.log = log_of_changes(words.conf)")
 @pytest.mark.parametrize("given, log", [([], "its.log"), (["--log", "other.log"], "other.log")])
 def test_the_follower(monkeypatch, capsys, conf, tmp_path, given, log):
     seen = calls(monkeypatch, FOLLOW, "follow")
@@ -28,6 +31,8 @@ def test_the_follower(monkeypatch, capsys, conf, tmp_path, given, log):
     assert seen[0][0].log == (f"{tmp_path}/{log}" if not given else log)
 
 
+@catches("server/bin/index-alarms", "words.changes = words.changes or log_of_changes(words.nginx)",
+         "words.changes = words.changes or log_of_changes()")
 @pytest.mark.parametrize("given, log", [([], "its.log"), (["--changes", "other.log"], "other.log")])
 def test_the_alarms(monkeypatch, capsys, conf, tmp_path, given, log):
     seen = calls(monkeypatch, ALARMS, "watch", 0)
@@ -53,6 +58,7 @@ def test_a_restore(monkeypatch, capsys, conf, tmp_path, given, log):
     assert gathered[0][0] == ([f"{tmp_path}/{log}"] if not given else [log])
 
 
+@catches("indexctl/commands/history.py", "    if not found:", "    if False:")
 def test_the_history(monkeypatch, capsys, conf, tmp_path):
     monkeypatch.setattr(history, "log_of_changes", lambda: log_place.log_of_changes(conf))
     nothing = args(logs=[], users=[], name=None, file=None, user=None, since=None, until=None, refused=False)

@@ -5,6 +5,7 @@ import os
 
 import pytest
 from support.library import followed, looks, tallies
+from support.planted import catches
 
 NOW, HOUR, DAY, GIB = 2_000_000_000.0, 3600, 86400, 1 << 30
 
@@ -14,6 +15,9 @@ def look(hours_ago=0.0, room=None, boot="a", restarts=None, is_set=0.0):
     return looks.Look(NOW - hours_ago * HOUR + is_set, boot, 5e6 - hours_ago * HOUR, room or {}, restarts or {})
 
 
+@catches("server/lib/package_index/looks.py", "used, passed = then.room[folder] - free, now.at - then.at",
+         "used, passed = free - then.room[folder], now.at - then.at",
+         also=["server/test_alarms_by_rate.py::test_a_disk_that_fills_is_told_once_a_day"])
 @pytest.mark.parametrize("hours, before, free, told", [
     (24, 8, 7, []), (24, 8, 6.9, [6.3]),
     (24, 8, 8, []), (24, 8, 9, []), (24.1, 8, 4, []), (6, 8, 7.5, [3.75]), (5.9, 8, 4, []), (24, 8, 0, [0.0]),
@@ -27,12 +31,17 @@ def test_a_disk_is_told_that_is_full_within_seven_days_at_the_rate_of_the_last(h
         assert text.endswith(f"at the rate of the last {hours:.0f} hours")
 
 
+@catches("server/lib/package_index/looks.py", "then = next((it for it in looks if",
+         "then = next((it for it in reversed(looks) if")
 def test_a_disk_is_measured_from_the_earliest_look_of_the_last_day_that_has_it():
     seen = [look(30, {"/a": 9 * GIB}), look(20, {"/b": 1}), look(10, {"/a": 8 * GIB}), look(1, {"/a": 2 * GIB}),
             look(0, {"/a": 6 * GIB})]
     assert list(looks.disks(seen)) == ["the disk of /a is full in 1.2 days, at the rate of the last 10 hours"]
 
 
+@catches("server/lib/package_index/looks.py", "ahead = (now.at - before.at) - (now.up - before.up)",
+         "ahead = (now.at - before.at) - (now.at - before.at)",
+         also=["server/test_alarms_by_rate.py::test_a_clock_that_was_set_is_told"])
 @pytest.mark.parametrize("is_set, told", [
     (0, []), (60, []), (61, ["the clock went back by 61 seconds: timedatectl"]), (-60, []),
     (-7200, ["the clock went ahead by 7200 seconds: timedatectl"])])
@@ -40,12 +49,15 @@ def test_a_clock_that_was_set_is_told(is_set, told):
     assert list(looks.clock(look(1, is_set=is_set), look())) == told
 
 
+@catches("server/lib/package_index/looks.py", "ahead = min(0.0, now.at - before.at)", "ahead = now.at - before.at")
 @pytest.mark.parametrize("hours, told", [
     (500, []), (0, []), (-0.01, []), (-1, ["the clock went back by 3600 seconds: timedatectl"])])
 def test_after_a_start_only_a_clock_that_went_back_is_seen(hours, told):
     assert list(looks.clock(look(hours, boot="b"), look())) == told
 
 
+@catches("server/lib/package_index/looks.py", "RESTARTS = 3", "RESTARTS = 30000",
+         also=["server/test_alarms_by_rate.py::test_an_index_that_is_started_again_and_again_is_told"])
 def test_a_unit_that_is_started_again_and_again_is_told():
     before = look(0.5, restarts={"index.service": 4, "index@1.service": 4, "index@2.service": 9})
     now = look(0, restarts={"index.service": 7, "index@1.service": 8, "index@2.service": 0, "index@3.service": 99})
@@ -68,6 +80,11 @@ def late(folder, begun=1000.0, units=()):
     return [text.partition(":")[0] for text in looks.backups(str(folder), units, NOW, NOW - begun * HOUR)]
 
 
+@catches("server/lib/package_index/looks.py", "return min(named.timestamp(), written) if named else written",
+         "return named.timestamp() if named else written",
+         also=["server/test_alarms_by_rate.py::test_a_late_backup_is_told"])
+@catches("server/lib/package_index/looks.py", "max((it for it in moments if it <= now), default=begun)",
+         "max(moments, default=begun)")
 def test_a_backup_is_late_by_the_earlier_of_its_name_and_its_file(tmp_path):
     copy(tmp_path, 26)
     assert late(tmp_path) == []
@@ -89,6 +106,8 @@ def test_an_index_that_is_new_has_a_day_for_its_first_backup(tmp_path):
     assert late(tmp_path / "none", 30) == [f"no backup was made in {tmp_path}/none for 30 hours"]
 
 
+@catches("server/lib/package_index/looks.py", 'return own + [f"{backups}/{it}" for it in sorted(there | ports)]',
+         'return own + [f"{backups}/{it}" for it in sorted(there | ports)][:1]')
 def test_of_several_indexes_each_has_its_own_backups(tmp_path, monkeypatch):
     for port, hours in (("8080", 2), ("8082", 27), ("8091", 30), ("8083", 28)):
         (tmp_path / port).mkdir()
@@ -100,6 +119,11 @@ def test_of_several_indexes_each_has_its_own_backups(tmp_path, monkeypatch):
                               for port, hours in ((8082, 27), (8083, 28), (8091, 30))]
 
 
+@catches("server/lib/package_index/looks.py", 'for it in units if "@" in it}', "for it in ()}")
+@catches("server/lib/package_index/looks.py",
+         '    own = [] if there or ports and "index.service" not in units else [backups]',
+         "    own = [] if there or ports else [backups]",
+         also=["server/test_alarms_by_rate.py::test_a_late_backup_is_told"])
 def test_an_index_of_several_whose_backups_never_began_is_told(tmp_path):
     """The first backup of each makes its folder."""
     units = {"index@8081.service": 0, "index@8080.service": 3, "index-legacy-upload.service": 0}
@@ -133,6 +157,10 @@ def tally(path):
     return tallies.read_on(path, tallies.Tally(None, {}), NOW)
 
 
+@catches("server/lib/package_index/tallies.py", "return NO_TOKEN if status == 401 else REFUSED",
+         "return None if status == 401 else REFUSED",
+         also=["server/test_alarms_by_rate.py::test_a_rise_of_wrong_tokens_is_told"])
+@catches("server/lib/package_index/looks.py", "and last > TIMES * before / 23", "and last > 0")
 @pytest.mark.parametrize("rows, told", [
     ([(99, 401, 0.5)], []), ([(100, 401, 0.5)], ["100 changes were answered by 401"]),
     ([(100, 401, 0.5), (230, 401, 5)], []), ([(101, 401, 0.5), (230, 401, 5)], ["101 changes were answered by 401"]),
@@ -144,6 +172,9 @@ def test_a_rise_of_refused_changes_is_told(tmp_path, rows, told):
     assert len(seen) == len(told) and all(text.startswith(start) for text, start in zip(seen, told)), seen
 
 
+@catches("server/lib/package_index/tallies.py", "return FAILED if status == 500 else None",
+         "return FAILED if status == 599 else None",
+         also=["server/test_alarms_by_rate.py::test_a_failed_change_is_told_once_and_that_it_is_over"])
 @pytest.mark.parametrize("rows, told", [
     ([(1, 500, 0.5)], ["1 change failed (500)"]), ([(3, 500, 0.99), (9, 500, 1.1)], ["3 changes failed (500)"]),
     ([(9, 500, 1.1), (9, 500, -1), (9, 503, 0.5), (9, 502, 0.5), (9, 404, 0.5)], [])])

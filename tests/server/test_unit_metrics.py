@@ -9,6 +9,7 @@ import types
 
 import pytest
 from support.library import exposition
+from support.planted import catches
 from support.programs import program_of
 from support.unit import calls, ends, with_time
 
@@ -70,6 +71,9 @@ def test_the_sizes_of_files_and_the_age_of_the_newest_copy(tmp_path):
     assert told(METRICS.files(str(db), str(backups)))["index_backup_newest_seconds"] == 0
 
 
+@catches("server/bin/index-metrics", "if at <= time.time()]", "if at]", case="index-20360101T000000Z.db-9001-1000")
+@catches("server/bin/index-metrics", "zip(map(made_at, kept), kept)", "zip(map(os.path.getmtime, kept), kept)",
+         case="index-19700101T010000Z.db-9000-3600")
 @pytest.mark.parametrize("name, written, at", [
     ("index-19700101T010000Z.db", 9_000, 3_600), ("index-19700101T030000Z.db", 9_000, 9_000),
     ("index-1.db", 9_000, 9_000), ("index-1.db", 9_000.5, 1_000), ("index-20360101T000000Z.db", 9_001, 1_000)])
@@ -81,6 +85,8 @@ def test_the_newest_copy_is_of_no_clock_that_was_ahead_and_of_no_later_touch(tmp
     assert told(METRICS.files("/none", str(tmp_path)))["index_backup_newest_seconds"] == at
 
 
+@catches("server/lib/package_index/copies.py", "FROM names WHERE state = 1", "FROM names WHERE state > 0")
+@catches("server/lib/package_index/copies.py", "?mode=ro&immutable=1", "?mode=ro")
 def test_names_and_files_and_quotas_are_those_of_the_newest_copy(tmp_path):
     """Of names that are held: one is prohibited, and one has a quota of nothing."""
     rows = [(1, 3, 80, 100), (1, 2, 79, 100), (1, 0, 0, 0), (2, 0, 0, 0)]
@@ -139,6 +145,7 @@ def test_whether_an_index_answers_and_how_long_that_took(monkeypatch):
     assert told(METRICS.looks("http://127.0.0.1:9"))["index_look_seconds"] == 0.1235
 
 
+@catches("server/bin/index-metrics", "ANSWERED = 0, 9, 10", "ANSWERED = 0, 3, 10")
 @pytest.mark.parametrize("status, begun, ended, found", [
     (0, 10, 9.5, (1, 0.5)), (8, 70, 10, (0, 60)), (9, 10, 9.5, (1, 0.5)), (3, 10, 9.5, (0, 0.5)), (-1, 10, 9, (1, 1)),
     (0, 400, 300.5, None), (0, 400, 299.5, (1, 100.5)), (10, 10, 9.5, (1, 0.5)),

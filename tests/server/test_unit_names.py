@@ -7,6 +7,7 @@ from hypothesis import example, given
 from hypothesis import strategies as st
 from support.library import database, hints, names
 from support.model import names as model
+from support.planted import catches
 
 EPOCH, LAST_DAY = datetime.datetime(1970, 1, 1), datetime.datetime(9999, 12, 30)
 # here the clock goes from 2 to 3 in a night of March, and from 2 back to 1 in one of November
@@ -80,6 +81,8 @@ def test_what_is_no_file_name(file):
     assert names.read_file_name(file) is None
 
 
+@catches("server/lib/package_index/database.py", "    except ValueError:", "    except KeyError:",
+         case="index-20261131T031500Z.db-None")
 @pytest.mark.parametrize("copy, moment", [
     ("/x/index-20260102T030405Z.db", "2026-01-02T03:04:05+00:00"),
     ("index-20260102T030405Z.db", "2026-01-02T03:04:05+00:00"),

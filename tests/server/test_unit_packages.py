@@ -15,6 +15,7 @@ from subprocess import CompletedProcess
 
 import pytest
 from support.needed import want_command
+from support.planted import catches
 from support.running import goes_on, run_command
 from support.server.released import TAG, VERSION, Repository
 from support.server.waits import wait_for
@@ -109,6 +110,7 @@ def tried(tmp_path: Path) -> Tried:
     return Tried(tmp_path)
 
 
+@catches("tools/package", 'setting = {"SOURCE_DATE_EPOCH"', 'setting = {**os.environ, "SOURCE_DATE_EPOCH"')
 def test_no_setting_of_yours_reaches_a_package(tried):
     ended = tried.ended(*tried.words("package"), COLUMNS="40", DEB_BUILD_OPTIONS="nostrip", MAKEFLAGS="-n")
     assert (ended.returncode, ended.stdout) == (0, f"{tried.out}/{NAME}\n")
@@ -116,6 +118,8 @@ def test_no_setting_of_yours_reaches_a_package(tried):
     assert "SOURCE_DATE_EPOCH=" in seen and "COLUMNS" not in seen and "nostrip" not in seen
 
 
+@catches("tools/package", 'shutil.copyfile(f"{folder}/{package}", f"{beside}/{package}")',
+         'shutil.copyfile(f"{folder}/{package}", f"{words.out}/{package}")')
 def test_a_disk_that_is_full_leaves_the_package_of_before(tried):
     os.mkdir(tried.out)
     ended = tried.ended("unshare", "--mount", "--propagation", "private", "sh", "-c", DISK, "sh", tried.out, NAME,
@@ -127,6 +131,8 @@ def test_a_disk_that_is_full_leaves_the_package_of_before(tried):
     assert seen == ["status 1", NAME, "before"] and tried.left() == []
 
 
+@catches("tools/lib/children.py", "signal.signal(it, leave)", "pass", case="TERM-package-acts")
+@catches("tools/lib/children.py", "os.killpg(child.pid, signal.SIGTERM)", "child.terminate()", case="INT-package-acts")
 @pytest.mark.parametrize("tool, place", [("package", "acts"), ("release", "proves")])
 @pytest.mark.parametrize("name", ["INT", "TERM", "HUP"])
 def test_what_is_interrupted_ends_with_all_that_it_started_and_leaves_nothing(tried, tool, place, name):
@@ -139,6 +145,7 @@ def test_what_is_interrupted_ends_with_all_that_it_started_and_leaves_nothing(tr
     assert tried.left() == [] and not (os.path.exists(tried.out) and os.listdir(tried.out))
 
 
+@catches("tools/lib/children.py", "communicate(timeout=0.5)", "communicate()")
 def test_a_signal_that_comes_just_before_a_wait_is_heard(tried):
     tried.does("acts", WAITS)
     with tried.waiting(sys.executable, "-c", DEAF, f"{tried.top}/tools/lib", f"{tried.folder}/acts") as command:
@@ -155,6 +162,7 @@ def test_what_nohup_began_goes_on_after_a_hang_up(tried):
     assert command.returncode == 0 and said.endswith(f"{tried.out}/{NAME}\n")
 
 
+@catches("tools/release", "return shlex.join([", 'return " ".join([')
 def test_the_command_of_a_tag_can_be_pasted_if_a_path_has_a_blank(tried):
     tried.out = f"{tried.folder}/a release"
     ended = tried.ended(*tried.words("release"))
@@ -163,6 +171,7 @@ def test_the_command_of_a_tag_can_be_pasted_if_a_path_has_a_blank(tried):
     assert tried.git("tag", "--list") == TAG
 
 
+@catches("tools/release", "shutil.rmtree(out, ignore_errors=True)", "pass")
 def test_a_release_that_a_full_disk_cuts_off_is_not_there(tried):
     tried.out = f"{tried.folder}/disk/release"
     os.mkdir(f"{tried.folder}/disk")
@@ -175,12 +184,14 @@ def test_a_release_that_a_full_disk_cuts_off_is_not_there(tried):
     assert seen == ["status 1", "before", "before"]
 
 
+@catches("tools/package", '"GIT_CEILING_DIRECTORIES"', '"GIT_CEILING"')
 def test_a_tree_without_git_has_no_commit_of_the_repository_around_it(tried):
     os.rename(f"{tried.top}/.git", f"{tried.folder}/.git")
     ended = tried.ended(*tried.words("package")[:4], "--out", tried.out)
     assert ended.returncode == 0 and ended.stdout.endswith(".unknown_amd64.deb\n"), ended
 
 
+@catches("tools/package", '"-c", f"safe.directory={TOP}", "-C", TOP, "log"', '"-C", TOP, "log"')
 @pytest.mark.skipif(os.geteuid() != 0, reason="only root may give a repository to another user")
 def test_the_repository_of_another_user_has_its_commit(tried):
     """As in a container, where git else refuses to look at it."""
@@ -190,6 +201,7 @@ def test_the_repository_of_another_user_has_its_commit(tried):
     assert ended.returncode == 0 and re.search(r"git20300102030405\.[0-9a-f]{7,}_amd64\.deb$", ended.stdout), ended
 
 
+@catches("tools/package", 'ignore_patterns("__pycache__", ".*", "*~")', 'ignore_patterns("__pycache__", ".#*", "*~")')
 def test_what_an_editor_leaves_is_not_in_a_package(tried):
     """The lock of Emacs leads nowhere."""
     tried.does("acts", "find server indexctl docs -name '.*' -o -name '*~' > '{folder}/found'")
@@ -201,6 +213,7 @@ def test_what_an_editor_leaves_is_not_in_a_package(tried):
     assert (tried.folder / "found").read_text() == ""
 
 
+@catches("tools/package", '"--abbrev=12",', "")
 def test_the_name_of_a_package_is_the_same_whatever_git_is_set_to(tried):
     """Git shows as much of a commit as a clone needs: of a whole one more than of a shallow one."""
     short = tried.ended("git", "-C", tried.top, "rev-parse", "--short=12", "HEAD").stdout.strip()
@@ -210,6 +223,7 @@ def test_the_name_of_a_package_is_the_same_whatever_git_is_set_to(tried):
         assert ended.returncode == 0 and ended.stdout.endswith(f".{short}_amd64.deb\n"), ended
 
 
+@catches("tools/release", '"--config", "core.autocrlf=false",', "")
 def test_a_release_is_the_same_whatever_git_makes_of_the_ends_of_lines(tried):
     (tried.folder / "gitconfig").write_text("[core]\n\tautocrlf = true\n")
     for name, setting in (("one", {}), ("other", {"GIT_CONFIG_GLOBAL": f"{tried.folder}/gitconfig"})):

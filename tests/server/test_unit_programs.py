@@ -7,6 +7,7 @@ import threading
 
 import pytest
 from support.places import BIN
+from support.planted import catches
 from support.running import run_command
 from support.server.stand_ins import stand_ins
 
@@ -73,6 +74,8 @@ MISTAKES = [
 ]
 
 
+@catches("server/lib/package_index/addresses.py", "if not is_well:", "if not word:")
+@catches("server/bin/index-log", 'raise Refused(f"{command[0]}: {end.strerror}") from None', "raise")
 @pytest.mark.parametrize("name, words, status, said", MISTAKES)
 def test_a_mistake_is_answered_in_a_sentence(tmp_path, name, words, status, said):
     (tmp_path / "folder").mkdir()
@@ -84,6 +87,8 @@ def test_a_mistake_is_answered_in_a_sentence(tmp_path, name, words, status, said
     assert said.format(**places) in ended.stdout.splitlines()[-1], ended.stdout
 
 
+@catches("server/lib/package_index/ends.py", "        sys.stdout.flush()", "        pass", case="index-metrics-words0")
+@catches("server/lib/package_index/ends.py", '        tell("")', "        pass", case="index-log-words1")
 @pytest.mark.parametrize("name, words", [
     ("index-metrics", ["{}/none", "{}", "--url", "http://127.0.0.1:1"]), ("index-log", ["{}/file"])])
 def test_what_can_not_be_printed_is_told_in_a_sentence(tmp_path, name, words):
@@ -93,6 +98,9 @@ def test_what_can_not_be_printed_is_told_in_a_sentence(tmp_path, name, words):
     assert (ended.returncode, ended.stdout) == (1, f"{name}: [Errno 28] No space left on device\n")
 
 
+@catches("server/lib/package_index/ends.py", '        sys.stderr = open(os.devnull, "w")', "        raise",
+         case="index-health-words0-3",
+         also=["test_a_status_stays_though_what_is_wrong_can_not_be_written[index-alarms-words3-9]"])
 @pytest.mark.parametrize("name, words, status", [
     ("index-health", ["--patience", "0.05", "http://127.0.0.1:1"], 3),
     ("index-uncache", ["frob", "--cache", "{}/none"], 2), ("index-backup", ["{}/none", "{}"], 1),
@@ -105,6 +113,7 @@ def test_a_status_stays_though_what_is_wrong_can_not_be_written(tmp_path, name, 
     assert run_command(["sh", "-c", '"$@" 2> /dev/full', "sh", *words], PATH=path).returncode == status
 
 
+@catches("server/bin/index-uncache-follow", 'say(NAME, f"{it} is not there yet")', "pass")
 def test_what_is_not_there_yet_is_told_and_waited_for(tmp_path):
     words = [f"--{it}={tmp_path}/{it}" for it in ("log", "cache", "place")]
     with subprocess.Popen([f"{BIN}/index-uncache-follow", *words], stderr=subprocess.PIPE, text=True) as following:

@@ -6,6 +6,7 @@ import sys
 
 import pytest
 from support.places import BIN, TOP
+from support.planted import catches
 from support.programs import program_of
 from support.running import run_command
 from support.server.prometheus import DASHBOARD, RULES, families, promtool, rules, tried
@@ -123,6 +124,8 @@ def test_prometheus_reads_what_is_written_without_a_complaint(written):
     assert (ended.returncode, ended.stdout) == (0, "")
 
 
+@catches("server/lib/package_index/counted.py", "list(map(int, accumulate(each)))", "list(map(int, each))")
+@catches("server/lib/package_index/exposition.py", r"\n# TYPE {name} {known[name][0]}\n", r"\n")
 def test_what_is_written_keeps_to_the_format(written):
     found = families(written)
     assert found["index_bodies_bytes"] == ("gauge", [("index_bodies_bytes", 'port="1"', 5.0)])

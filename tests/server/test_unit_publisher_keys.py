@@ -8,6 +8,7 @@ import time
 
 import pytest
 from support.needed import want_command
+from support.planted import catches
 from support.programs import program_of
 from support.server.front import make_certificate
 from support.server.issuer import FILE, Issuer
@@ -77,6 +78,8 @@ def test_the_keys_of_each_issuer_are_put_where_everybody_reads_them(monkeypatch,
     assert {it.stat().st_mode & 0o777 for it in (tmp_path / "kept").iterdir()} == {0o644}
 
 
+@catches("server/bin/index-publishers", "build_opener(Stay).open(", "build_opener().open(")
+@catches("server/bin/index-publishers", "keys_in(text, issuer.algorithms)", "keys_in and len(text)")
 @pytest.mark.told("the keys of an issuer can't be had")
 @pytest.mark.parametrize("answer, said", [
     ((404, {}, []), "HTTP Error 404: Not Found"), ((200, {}, []), "not a set of keys"),

@@ -4,6 +4,7 @@ import re
 import pytest
 from support.library import ends, publishers
 from support.places import TOP
+from support.planted import catches
 
 WELL = """[index]
 audience = packages.example
@@ -43,6 +44,11 @@ def test_an_issuer_may_come_behind_its_publisher(tmp_path):
     assert read(tmp_path, f"{head}{publisher}\n{issuer}").publishers["frob"].issuer == "gitlab"
 
 
+@catches("server/lib/package_index/publishers.py", 'self.refuse_at(section, key, f"`{key}` is not known here")',
+         "continue",
+         also=["server/test_unit_publisher_keys.py::test_what_is_wrong_in_the_file_is_told_and_nothing_is_fetched"])
+@catches("server/lib/package_index/publishers.py", "if not known & claims.keys():", "if not claims:",
+         also=["server/test_trusted_publishing.py::test_a_file_that_is_wrong_ends_the_service_at_its_start"])
 @pytest.mark.parametrize("old, new, line, said", [
     ("[index]\n", "", 1, "a section such as `[publisher frob]` has to come first"),
     ("user = frobci", "user: frobci", 14, "this is not a line such as `user = frobci`"),
@@ -79,6 +85,16 @@ def test_what_is_wrong_is_told_with_its_line(tmp_path, old, new, line, said):
     assert said in str(refused.value)
 
 
+@catches("server/lib/package_index/publishers.py", "return all(isinstance(claims.get(it), str) and",
+         "return any(isinstance(claims.get(it), str) or",
+         also=["server/test_trusted_publishing.py::"
+               "test_an_identity_token_is_refused_and_nothing_is_uploaded[other project]",
+               "server/test_trusted_publishing.py::"
+               "test_an_identity_token_is_refused_and_nothing_is_uploaded[unprotected]"])
+@catches("server/lib/package_index/publishers.py", "isinstance(claims.get(it), str) and claims[it] == value",
+         "str(claims.get(it)).lower() == value",
+         also=["server/test_trusted_publishing.py::"
+               "test_an_identity_token_is_refused_and_nothing_is_uploaded[protected as no text]"])
 @pytest.mark.parametrize("claims, fits", [
     ({"project_path": "team/frob", "ref_protected": "true", "more": 1}, True),
     ({"project_path": "team/frob", "ref_protected": True}, False),

@@ -8,6 +8,7 @@ from contextlib import closing
 import pytest
 from support.library import ends as library_ends
 from support.library import exchange
+from support.planted import catches
 from support.programs import program_of
 from support.sqlite_logs import summed
 from support.unit import calls, ends, raises
@@ -121,6 +122,7 @@ def test_what_sqlite_finds_is_refused(tmp_path, monkeypatch):
     assert str(refused.value) == f"integrity_check: {said[:3]}" and not world.new.exists()
 
 
+@catches("server/bin/index-reseal", "    at = own(path)", "    at = path")
 def test_a_link_in_the_place_of_its_folder_empties_no_other(tmp_path, monkeypatch, capsys):
     """The user of the index may put one beside its database, and root would remove all files of any folder."""
     (tmp_path / "other").mkdir()

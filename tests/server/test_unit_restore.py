@@ -11,6 +11,7 @@ import types
 import pytest
 from support.library import disk, exchange
 from support.library import ends as library_ends
+from support.planted import catches
 from support.programs import program_of
 from support.unit import calls, raises, with_time
 
@@ -62,6 +63,7 @@ def test_a_copy_of_this_second_is_taken(copies):
     assert f": {copy} is newer; name" in refusal(copies / "index-20260102T000000Z.db", "/none")
 
 
+@catches("server/bin/index-restore", "if COPY.fullmatch(it) and it <=", "if it <=")
 def test_only_copies_of_index_backup_are_newer(copies):
     # (by their names alone, these would be newer than the copy, and of no later time than now)
     for name in ("index-20260103T000000Z.db.part", "index-20260103T000000Z.kept.db", "index-20260103.db"):
@@ -91,6 +93,7 @@ def test_what_is_no_copy_is_refused(copies):
     RESTORE.look_at_copy(str(copy), str(copies / "index.db"), False)
 
 
+@catches("server/bin/index-restore", "if index_of(copy) and index_of(copy) != index_of(db):", "if False:")
 def test_a_copy_of_another_index_is_refused(copies):
     """Of several, whose databases and copies stand in folders that are named by their ports."""
     os.mkdir(copies / "8081")
@@ -151,6 +154,7 @@ def led_elsewhere(folder, elsewhere):
     os.symlink(elsewhere, folder)
 
 
+@catches("server/bin/index-restore", 'f"{made_own(folder)}/index.db"', 'f"{made_own(folder) and folder}/index.db"')
 def test_a_copy_is_given_away_in_the_folder_that_was_made_and_not_where_a_link_leads(tmp_path, monkeypatch):
     (tmp_path / "copy.db").write_bytes(b"copy")
     folder, elsewhere, given = str(tmp_path / "beside"), tmp_path / "elsewhere", []
@@ -164,6 +168,7 @@ def test_a_copy_is_given_away_in_the_folder_that_was_made_and_not_where_a_link_l
     assert os.listdir(f"{folder}-moved") == ["index.db"]
 
 
+@catches("server/lib/package_index/exchange.py", "at = made_own(aside)", "at = made_own(aside) and aside")
 def test_old_files_are_put_into_the_folder_that_was_made_and_not_where_a_link_leads(tmp_path, monkeypatch):
     db, aside, elsewhere = tmp_path / "index.db", str(tmp_path / "aside"), tmp_path / "elsewhere"
     elsewhere.mkdir()
@@ -174,6 +179,9 @@ def test_old_files_are_put_into_the_folder_that_was_made_and_not_where_a_link_le
     assert sorted(os.listdir(f"{aside}-moved")) == ["index.db", "unfinished"] and not os.listdir(elsewhere)
 
 
+@catches("server/lib/package_index/disk.py", "os.O_DIRECTORY | os.O_NOFOLLOW", "os.O_DIRECTORY")
+@catches("server/lib/package_index/disk.py", "if os.fstat(opened).st_uid != os.geteuid():",
+         "if os.fstat(opened).st_uid == -1:")
 def test_a_folder_is_its_own_user_s_and_no_link(tmp_path, monkeypatch):
     folder, linked = tmp_path / "folder", tmp_path / "linked"
     at = disk.made_own(str(folder))
@@ -244,6 +252,8 @@ def test_pypi_is_taken_off_and_put_back_by_who_took_it_off(tmp_path, monkeypatch
     assert len(asked) == 2
 
 
+@catches("server/bin/index-restore", "            self.is_moved = True",
+         '            self.is_moved = not run("systemctl", "try-reload-or-restart", "nginx.service")')
 def test_pypi_is_put_back_also_if_nginx_could_not_be_told_that_it_is_off(tmp_path, monkeypatch):
     """It was taken off by then, so a restore that is refused for this undoes it."""
     conf, fails = tmp_path / "x.conf", [Refused("nginx: status 1")]
@@ -308,6 +318,7 @@ def test_the_first_answer_is_waited_for(monkeypatch):
     assert asked == ["/names/x"] * 3 and slept == [(0.2,)] * 2
 
 
+@catches("server/bin/index-restore", "            if reply.status == 200:", "            if reply.status < 500:")
 @pytest.mark.parametrize("status", [301, 401, 404])
 def test_what_no_index_answers_is_no_first_answer(monkeypatch, status):
     """Such as another program's at its port, which was faster."""

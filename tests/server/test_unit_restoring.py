@@ -10,6 +10,7 @@ import types
 import pytest
 from support.library import ends as library_ends
 from support.library import units as library_units
+from support.planted import catches
 from support.programs import program_of
 from support.running import run_command
 from support.server.caches import keys, make_cache
@@ -74,6 +75,7 @@ def test_a_copy_is_tested_before_the_units_stop_and_caches_are_emptied_last(tmp_
     assert not signal.pthread_sigmask(signal.SIG_BLOCK, []) & set(library_ends.SIGNALS)
 
 
+@catches("server/bin/index-restore", '        if not is_there(f"{folder}/before-{stamp}"):', "        if stamp:")
 def test_of_two_restores_within_a_second_the_later_one_waits_for_a_name(tmp_path, monkeypatch):
     """The folder of what the first put aside would be that of the second."""
     world, now = World(tmp_path, monkeypatch), [1_000_000_000.0]
@@ -85,6 +87,8 @@ def test_of_two_restores_within_a_second_the_later_one_waits_for_a_name(tmp_path
                                                                         "before-20010909T014641Z"]
 
 
+@catches("server/bin/index-restore", "at = own(aside)", "at = aside",
+         ("server/bin/index-restore", 'open(f"{own(aside)}/forgotten", "w")', 'open(f"{aside}/forgotten", "w")'))
 def test_what_is_forgotten_is_not_written_where_a_link_leads(tmp_path, monkeypatch, capsys):
     """The user of the index may put one in the place of what was put aside, as soon as the index runs again."""
     world, elsewhere = World(tmp_path, monkeypatch), tmp_path / "elsewhere"
@@ -173,6 +177,9 @@ def test_a_restore_tells_what_it_forgets(tmp_path, monkeypatch, capsys):
     assert (aside / "changes").exists() and said.endswith((aside / "forgotten").read_text())
 
 
+@catches("server/bin/index-restore", 'return "" if is_here else ELSEWHERE.format(',
+         'return "" if words else ELSEWHERE.format(',
+         also=["server/test_restores.py::TestChangesSince::test_each_nginx_has_a_log_of_its_own"])
 def test_what_to_do_on_other_machines_of_nginx_is_told(tmp_path, monkeypatch, capsys):
     cache = make_cache(str(tmp_path / "cache"), [("frob", "frob-1.zip")])
     world = World(tmp_path, monkeypatch, cache=[cache])
@@ -292,6 +299,7 @@ def test_the_way_back_is_to_the_newest_that_was_put_aside(tmp_path, monkeypatch)
     assert f"To go back to it: index-restore {names[1]}\n" in RESTORE.way_back(words, f"{tmp_path}/before-now")
 
 
+@catches("server/bin/index-restore", 'its = "" if words.db == DB and not words.unit else', 'its = "" if words else')
 @pytest.mark.parametrize("is_there", [True, False])
 def test_the_way_back_of_one_of_several_indexes_is_to_itself(tmp_path, monkeypatch, is_there):
     """Without its options the line that is printed would have it take the place of another index."""
@@ -322,6 +330,7 @@ def test_without_a_unit_nothing_is_stopped_or_started_and_the_start_is_left_to_y
     assert not os.path.exists(world.words.with_pypi) and "PyPI was taken off" in said
 
 
+@catches("server/bin/index-restore", "if os.geteuid() == 0:", "if made:")
 def test_who_is_not_root_gives_the_copy_to_nobody(tmp_path, monkeypatch):
     """On a disk whose folder is another user's, as in a container, no other owner could be set."""
     world = World(tmp_path, monkeypatch)

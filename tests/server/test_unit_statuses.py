@@ -2,6 +2,7 @@
 import re
 
 from support.places import SERVER
+from support.planted import catches
 from support.programs import program_of
 
 LOG, HEALTH, ALARMS, METRICS = map(program_of, ("index-log", "index-health", "index-alarms", "index-metrics"))
@@ -25,6 +26,9 @@ def arms():
             for it in statuses.split("|")}
 
 
+@catches("server/bin/index-health", "LITTLE_ROOM, FRONT, BOTH = 0, 8, 3, 9, 10, 11",
+         "LITTLE_ROOM, FRONT, BOTH = 0, 8, 3, 9, 10, 12",
+         also=["test_the_metrics_know_by_which_statuses_the_index_answers"])
 def test_a_check_of_health_is_followed_by_what_its_status_asks_for():
     full, room = "touch /run/index-full", "rm -f /run/index-full"
     assert arms() == {HEALTH.RESTART: "systemctl try-restart index.service", HEALTH.LITTLE_ROOM: full,
@@ -35,6 +39,7 @@ def test_the_metrics_know_by_which_statuses_the_index_answers():
     assert {*METRICS.ANSWERED} == {HEALTH.WELL, HEALTH.LITTLE_ROOM, HEALTH.FRONT, HEALTH.BOTH}
 
 
+@catches("server/bin/index-alarms", 'NAME, ALARM = "index-alarms", 9', 'NAME, ALARM = "index-alarms", 8')
 def test_what_the_alarms_tell_is_always_sent():
     assert texts_in("bin/index-alarm", r'"index-alarms\.service (\d+)"') == [str(ALARMS.ALARM)]
 

@@ -6,6 +6,7 @@ import os
 
 import pytest
 from support.library import tallies
+from support.planted import catches
 
 NOW = 2_000_000_040.0
 NONE = tallies.Tally(None, {})
@@ -33,6 +34,10 @@ def log(tmp_path):
     return write
 
 
+@catches("server/lib/package_index/tallies.py", "lambda line: count(line, minutes), minutes.clear)",
+         "lambda line: count(line, minutes), int)",
+         ("server/lib/package_index/grown.py", "if not is_old and is_at(log, place):",
+          "if is_old and is_at(log, place):"))
 def test_each_line_is_counted_once_whatever_becomes_of_the_log(log, tmp_path):
     path = log(line(500), line(200))
     seen = tallies.read_on(path, NONE, NOW)

@@ -8,6 +8,7 @@ import threading
 import pytest
 from support.clients.forms import asked, form, message
 from support.library import ends, passes, replies
+from support.planted import catches
 from support.programs import program_of
 from support.server.issuer import AUDIENCE, Issuer, claims, placed, trusted
 from support.server.issuer import Issuer as Signer
@@ -50,6 +51,10 @@ def refusal(call, *words):
     return refused.value.status, refused.value.sentence, refused.value.note
 
 
+@catches("server/lib/package_index/trusted.py", "if project in it.projects:", "if project:",
+         also=["test_another_project_than_that_of_the_publisher_does_not_reach_the_index",
+               "server/test_trusted_publishing.py::"
+               "test_the_log_of_changes_names_the_user_of_the_publisher_and_no_token"])
 def test_a_pass_uploads_the_projects_of_its_publisher_as_its_user(exchange, issuer):
     made = passed(exchange, issuer.token())
     for project in ("frob", "frob-extras"):
@@ -64,6 +69,12 @@ def test_the_token_of_a_user_is_passed_on_as_it_is(exchange):
         assert exchange.uploader(token, "frob") == (token, "")
 
 
+@catches("server/lib/package_index/passes.py", "if not at.rowcount:", "if at.rowcount < 0:",
+         also=["test_a_token_that_says_the_same_again_is_refused_by_its_id", "test_of_many_at_once_one_gets_a_pass",
+               "server/test_trusted_publishing.py::test_an_identity_token_is_good_for_once_also_after_a_restart"])
+@catches("server/lib/package_index/passes.py", 'TABLES = """CREATE TABLE IF NOT EXISTS used',
+         'TABLES = """DROP TABLE IF EXISTS used; CREATE TABLE used',
+         also=["server/test_trusted_publishing.py::test_an_identity_token_is_good_for_once_also_after_a_restart"])
 def test_an_identity_token_is_good_for_once_and_no_password(exchange, issuer, folders):
     token = issuer.token()
     assert refusal(exchange.uploader, token, "frob")[:2] == (
@@ -109,6 +120,8 @@ def test_a_pipeline_of_no_publisher_is_refused_and_the_log_says_what_it_is(excha
     assert note.endswith(f", ref_protected {claims(**said).get('ref_protected')!a}")
 
 
+@catches("server/lib/package_index/trusted.py", "if it.issuer == issuer.name and it.fits(claims)]",
+         "if it.fits(claims)]")
 def test_a_pipeline_fits_the_publishers_of_its_own_issuer_alone(exchange, issuer):
     said = claims(project_path=None, repository="octo-org/octo-repo", environment="prod")
     assert refusal(exchange.exchanged, sent(issuer.token(said)))[1].startswith("no publisher here fits")
@@ -125,6 +138,7 @@ def test_a_body_that_is_none_is_refused(exchange, body):
     assert refusal(exchange.exchanged, body)[:2] == (422, 'the body has to be {"token": "IDENTITY TOKEN"}')
 
 
+@catches("server/lib/package_index/passes.py", 'WHERE digest = ? AND until >= ?",', 'WHERE digest = ? AND ?",')
 def test_a_pass_ends_after_a_quarter_of_an_hour(exchange, issuer, monkeypatch):
     made, now = passed(exchange, issuer.token()), int(trusted.time.time())
     for later, is_good in ((890, True), (905, False)):
@@ -141,6 +155,8 @@ def test_a_pass_that_nobody_got_is_refused(exchange, text):
     assert refusal(exchange.uploader, text, "frob")[0] == 401
 
 
+@catches("server/lib/package_index/trusted.py", "for it in names if it in self.known.publishers]",
+         "for it in self.known.publishers]")
 def test_a_pass_of_a_publisher_that_was_taken_out_is_refused(exchange, issuer, folders):
     made = passed(exchange, issuer.token())
     with open(folders[0], encoding="utf-8") as kept:
@@ -161,6 +177,8 @@ def test_a_used_token_is_remembered_until_it_has_ended(exchange, issuer, monkeyp
             assert store.execute("SELECT count(*) FROM used WHERE id = ?", (kept,)).fetchone() == (count,), later
 
 
+@catches("server/lib/package_index/passes.py", "return hashlib.sha256(text.encode()).hexdigest()",
+         'return text or hashlib.sha256(b"").hexdigest()')
 def test_neither_tokens_nor_passes_are_kept_as_they_are(exchange, issuer):
     said = claims()
     made = passed(exchange, issuer.token(said))
@@ -177,6 +195,8 @@ def test_no_more_are_remembered_than_the_disk_is_to_hold(exchange, issuer, monke
     assert all(exchange.uploader(it, "frob") for it in first)
 
 
+@catches("server/lib/package_index/trusted.py", "if not found or found.of != (now.st_mtime_ns, now.st_size):",
+         "if not found:")
 def test_new_keys_are_read_once_they_are_there(exchange, issuer, folders):
     other = Signer()
     assert refusal(exchange.exchanged, sent(other.token()))[1].startswith("no key of an issuer")
@@ -188,6 +208,7 @@ def test_new_keys_are_read_once_they_are_there(exchange, issuer, folders):
     assert refusal(exchange.exchanged, sent(issuer.token()))[1].startswith("no key of an issuer")
 
 
+@catches("server/lib/package_index/trusted.py", "lacks.append(end)", "raise end")
 @pytest.mark.parametrize("text", [None, "", "{}", '{"keys": []}'])
 def test_keys_that_are_not_there_are_told_and_hinder_no_other_issuer(exchange, issuer, folders, text):
     for name in ("github", "gitlab"):

@@ -8,6 +8,7 @@ import time
 import pytest
 from support.needed import want_command
 from support.places import TOP
+from support.planted import catches
 from support.running import run_command
 from support.server.stand_ins import called, stand_ins, written
 from support.server.two_machines import DUMPED, FILES, LEFT, SERVES, SHOWN, SIGNALS, Machine
@@ -44,6 +45,9 @@ def name(request, machine):
     return request.param
 
 
+@catches("server/lib/package_index/two_machines.py",
+         '"index-backup.timer", "index-health.service", "index-backup.service",',
+         '"index-backup.timer", "index-health.service",')
 def test_a_machine_takes_the_index_and_gives_it_up_again_and_again(machine, looked):
     for name in [*COMMANDS] * 2:
         ended = machine.run(name)
@@ -51,6 +55,7 @@ def test_a_machine_takes_the_index_and_gives_it_up_again_and_again(machine, look
         looked((ended.returncode, machine.called(), machine.state()) == (0, calls, state), ended, machine.called())
 
 
+@catches("server/bin/index-take", "        if not there:", '        if there != "nothing":', case="index-take")
 def test_the_second_time_a_command_changes_nothing(machine, name):
     for _ in range(2):
         ended = machine.run(name)
@@ -58,6 +63,10 @@ def test_the_second_time_a_command_changes_nothing(machine, name):
     assert [line for line in machine.called() if "mount" in line.split()[0]] == []
 
 
+@catches("server/bin/index-leave", '        step("systemctl", "stop", *others, says',
+         '        step("systemctl", "stop", *UNITS, says',
+         ("server/bin/index-leave", '        step("systemctl", "stop", index, says',
+          '        step("systemctl", "show", index, says'))
 def test_a_backup_that_has_stopped_the_index_serves_on_no_machine_that_gives_it_up(machine):
     assert machine.run("index-take").returncode == 0
     machine.put(backs_up="")
@@ -65,6 +74,7 @@ def test_a_backup_that_has_stopped_the_index_serves_on_no_machine_that_gives_it_
     assert (ended.returncode, machine.called(), machine.state()) == (0, GIVEN_UP, LEFT), ended
 
 
+@catches("server/bin/index-take", '"/run/index-peer-is-off"', '"/run/index-peer-was-off"')
 def test_what_says_that_the_other_machine_is_off_has_one_path():
     """In what believes it, what takes it away, and what a person types."""
     paths = []
@@ -74,6 +84,7 @@ def test_what_says_that_the_other_machine_is_off_has_one_path():
     assert paths == ["/run/index-peer-is-off"] * 3
 
 
+@catches("server/bin/index-take", "            os.remove(SAID)", "            os.stat(SAID)", case="True")
 @pytest.mark.parametrize("peer", [True, False])
 def test_that_the_other_machine_is_off_is_believed_for_one_takeover_alone(machine, folder, peer):
     said = f"{folder}/said"
@@ -83,6 +94,8 @@ def test_that_the_other_machine_is_off_is_believed_for_one_takeover_alone(machin
     assert (ended.returncode, os.path.exists(said)) == (int(peer), False), ended
 
 
+@catches("server/lib/package_index/two_machines.py", r'        tell(f"{says}\n")', "        print(says, flush=True)",
+         case="index-take")
 def test_what_can_not_be_printed_stops_no_takeover(machine, name):
     """As into a file on a full disk, and through a pipe that nobody reads any more."""
     machine.front = ["sh", "-c", 'exec "$@" > /dev/full', "sh"]
@@ -114,6 +127,10 @@ def test_a_configuration_that_is_not_safe_as_it_runs_is_refused_and_named(machin
     assert said in ended.stdout and "drbdadm adjust index" in ended.stdout, ended
 
 
+@catches("server/lib/package_index/two_machines.py", r"\bfencing\s+resource-and-stonith;", r"\bfencing\s+\S+;",
+         case="index-take")
+@catches("server/lib/package_index/two_machines.py", r'if not re.search(r"\bfence-peer\s+\S"',
+         'if not re.search(r"resource"', case="index-leave")
 def test_each_part_that_is_wrong_is_named(machine, name):
     machine.put(shown=SHOWN.replace("resource-and-stonith", "dont-care").replace("net {", "net {\n protocol A;"),
                 dumped=DUMPED.replace("fence-peer", "split-brain"))
@@ -146,12 +163,15 @@ def test_a_warning_before_the_configuration_changes_nothing(machine, name):
     assert (ended.returncode, machine.state()) == (0, COMMANDS[name][1]), ended
 
 
+@catches("server/lib/package_index/two_machines.py", r're.findall(r"^/dev/\S+$", printed, re.MULTILINE)',
+         "[printed.strip()]", case="index-take", also=["test_a_warning_beside_the_device_changes_nothing[index-leave]"])
 def test_a_warning_beside_the_device_changes_nothing(machine, name):
     machine.put(devices="DRBD module version: 8.4.11\n   userland version: 9.22.0\n/dev/drbd0\nplease don't mix.\n")
     ended = machine.run(name)
     assert (ended.returncode, machine.called(), machine.state()) == (0, *COMMANDS[name]), ended
 
 
+@catches("server/lib/package_index/two_machines.py", "    if len(devices) != 1:", "    if len(devices) > 9:")
 @pytest.mark.parametrize("devices", ["", "no device\n", "/dev/drbd0\n/dev/drbd1\n"])
 def test_a_disk_of_no_device_or_of_several_is_left_alone(machine, name, devices):
     machine.put(devices=devices)
@@ -166,6 +186,7 @@ def test_help_is_printed(machine, name, word):
     assert ended.returncode == 0 and ended.stdout.startswith(f"{name} [RESOURCE]: ") and machine.called() == []
 
 
+@catches("server/bin/index-take", 'if there not in ("", disk.device):', 'if there == "nothing":', case="index-take")
 def test_another_disk_at_the_folder_is_refused_and_stays(machine, name):
     machine.put(mounts="/dev/sda1 /var/lib/index ext4 rw 0 0\n")
     before, ended = machine.state(), machine.run(name)
@@ -188,6 +209,12 @@ def test_while_the_other_machine_may_be_primary_nothing_is_mounted(machine):
     assert "Refusing to be Primary while peer is not outdated" in ended.stdout
 
 
+@catches("server/bin/index-leave", 'if there not in ("", disk.device):',
+         'if step("systemctl", "stop", *UNITS[:-1], says="its timers are stopped") or there not in ("", '
+         "disk.device):",
+         ("server/bin/index-leave",
+          'step("systemctl", "stop", *others, says="its timers, and what they start, are stopped")', "pass"),
+         case="index-leave-1-TERM")
 @pytest.mark.parametrize("number", SIGNALS)
 @pytest.mark.parametrize("name, at", STEPS, indirect=["name"])
 def test_a_signal_at_each_step_ends_it_behind_that_step_and_it_goes_on_or_back(machine, name, at, number):
@@ -223,6 +250,8 @@ def test_a_disk_that_can_not_be_asked_is_left_alone(machine, name, at):
     assert (ended.returncode, machine.called(), machine.state()) == (1, [], before)
 
 
+@catches("server/bin/index-take", "(Inconsistent|Diskless|Failed)", "(Outdated|Diskless|Failed)",
+         case="Inconsistent/UpToDate")
 @pytest.mark.parametrize("disks", ["Inconsistent/UpToDate", "Diskless/UpToDate", "Failed/UpToDate"])
 def test_a_copy_that_is_not_whole_is_refused_though_drbd_would_take_it(machine, disks):
     machine.put(disks=f"Command 'drbdsetup dstate' did not terminate within 5 seconds\n{disks}\n")
@@ -231,6 +260,7 @@ def test_a_copy_that_is_not_whole_is_refused_though_drbd_would_take_it(machine, 
     assert disks.partition("/")[0] in ended.stdout and "drbdadm dstate index prints" in ended.stdout
 
 
+@catches("server/bin/index-take", 'if found and not re.search(r"^Primary/"', 'if found and not re.search(r"^Unknown/"')
 def test_a_machine_that_serves_by_the_other_ones_disk_may_be_told_again_to_serve(machine):
     assert machine.run("index-take").returncode == 0
     machine.put(disks="Inconsistent/UpToDate\n")

@@ -4,6 +4,7 @@ import os
 import pytest
 from support.library import cache as places
 from support.library import ends
+from support.planted import catches
 from support.programs import program_of
 from support.unit import ends as ends_of
 
@@ -66,6 +67,7 @@ def test_a_folder_that_is_not_there_is_told(tmp_path, monkeypatch, capsys):
     assert ends_of(UNCACHE, monkeypatch, capsys, "frob", "--cache", f"{tmp_path}/none") == (2, "", said)
 
 
+@catches("server/bin/index-uncache", "        sync(folder)", "        pass")
 def test_what_was_taken_out_is_so_on_the_disk_before_it_is_told(tmp_path, monkeypatch, capsys):
     kept = [UNCACHE.Kept(name, str(tmp_path / place)) for name, place in (("a", "x/1"), ("b", "x/2"), ("c", "y/3"))]
     for it in kept:

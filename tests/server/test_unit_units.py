@@ -3,6 +3,7 @@ import os
 
 import pytest
 from support.library import ends, units
+from support.planted import catches
 from support.unit import calls, raises
 
 
@@ -26,6 +27,9 @@ def test_units_are_started_also_if_their_stop_failed(monkeypatch):
     assert asked == [("systemctl", "start", "a")]
 
 
+@catches("server/lib/package_index/units.py", "[] if list(names) == [NO_UNIT] else names", "names",
+         also=["server/test_unit_restoring.py::"
+               "test_without_a_unit_nothing_is_stopped_or_started_and_the_start_is_left_to_you"])
 def test_none_is_no_unit(monkeypatch):
     """As in a container, in which no systemd could be asked."""
     asked, none = calls(monkeypatch, units, "run"), units.Units(["none"])
@@ -47,6 +51,8 @@ def test_a_unit_of_another_database_is_refused(tmp_path, monkeypatch):
             units.want_units_of(db, ["own", other])
 
 
+@catches("server/lib/package_index/units.py", '"index-certificate.timer", "index-uncache-follow.service"]',
+         '"index-certificate.timer"]')
 @pytest.mark.parametrize("unit, names", [
     ("index.service", ["index.service", "index-backup.timer", "index-health.timer", "index-alarms.timer",
                        "index-certificate.timer", "index-uncache-follow.service"]),
@@ -65,6 +71,7 @@ def test_only_what_is_there_and_disabled_is_off_at_the_next_start(monkeypatch):
     assert {name for _, name in asked} == {"UnitFileState"}
 
 
+@catches("server/lib/package_index/units.py", "UNITS if is_shared() else []", "[]")
 def test_what_index_take_starts_is_enabled_on_none_of_two_machines(monkeypatch):
     calls(monkeypatch, units, "shown", "disabled")
     monkeypatch.setattr(units, "is_shared", lambda: True)

@@ -6,6 +6,7 @@ import types
 
 import pytest
 from support.library import database, disk, exchange
+from support.planted import catches
 from support.programs import program_of
 from support.unit import raises
 
@@ -45,6 +46,14 @@ def test_what_is_there_and_what_is_not(files, unreadable):
         disk.is_there(files.db)
 
 
+@catches("server/lib/package_index/exchange.py", "there = [end for end in ENDS if is_there(db + end)]",
+         "os.remove(db); there = [end for end in ENDS if is_there(db + end)]", case="-wal")
+@catches("server/lib/package_index/disk.py", "    except (FileNotFoundError, NotADirectoryError):",
+         "    except OSError:", case="-wal",
+         also=["test_names_that_can_not_be_put_back_stay_where_they_are",
+               "test_a_file_that_can_not_be_seen_is_not_passed_over[log_of_copy]",
+               "test_a_file_that_can_not_be_seen_is_not_passed_over[reseal]",
+               "test_a_file_of_a_cache_that_can_not_be_seen_is_still_to_be_taken_out"])
 @pytest.mark.parametrize("end", ["", "-wal"])
 def test_a_copy_is_put_beside_no_log_and_over_no_database_that_can_not_be_seen(files, unreadable, end):
     unreadable(files.db + end)
@@ -89,11 +98,13 @@ def test_a_file_of_a_cache_that_can_not_be_seen_is_still_to_be_taken_out(tmp_pat
         FOLLOW.take_out(["frob", "frob-1.0.tar.gz"], str(tmp_path))
 
 
+@catches("server/lib/package_index/disk.py", "if end.errno != errno.EINVAL:", "if end:")
 def test_a_file_system_that_syncs_no_folder_is_no_fault(tmp_path, monkeypatch):
     monkeypatch.setattr(os, "fsync", raises(OSError(errno.EINVAL, "Invalid argument")))
     disk.sync(str(tmp_path))
 
 
+@catches("server/lib/package_index/disk.py", "        os.remove(path)", "        pass")
 def test_a_name_that_the_disk_can_not_keep_is_none(files, monkeypatch):
     monkeypatch.setattr(os, "fsync", raises(OSError(errno.EIO, "Input/output error")))
     with pytest.raises(OSError, match="Input/output error"):
@@ -101,6 +112,8 @@ def test_a_name_that_the_disk_can_not_keep_is_none(files, monkeypatch):
     assert sorted(os.listdir(files.folder)) == ["copy.db-wal", "index.db", "index.db-wal"]
 
 
+@catches("server/bin/index-restore",
+         '        say("index-restore", f"{db}: {end}: a loss of power may undo this restore")', "        raise")
 def test_a_restore_goes_on_if_the_disk_can_not_keep_its_names(files, monkeypatch, capsys):
     """The copy is in its place: what it forgets has to be told."""
     monkeypatch.setattr(RESTORE, "put_beside", lambda copy, beside, owner: None)

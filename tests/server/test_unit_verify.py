@@ -5,6 +5,7 @@ import types
 from contextlib import closing
 
 import pytest
+from support.planted import catches
 from support.programs import program_of
 from support.unit import ends, raises
 
@@ -161,6 +162,7 @@ def test_a_copy_is_read_alone_and_what_is_no_database_is_told(tmp_path, monkeypa
     assert VERIFY.fault("y.db") == "wrong y.db"
 
 
+@catches("server/bin/index-verify", "{quote(os.fsencode(path))}", "{path}")
 @pytest.mark.parametrize("name", ["a%20b.db", "a?b.db", "a#b.db", "a b.db"])
 def test_a_copy_may_have_any_name(tmp_path, monkeypatch, name):
     """SQLite reads the path of an address: of `a%20b.db` it would read `a b.db`."""

@@ -10,6 +10,7 @@ from contextlib import closing
 import pytest
 from support.judge import Judge, copy_index, seen_by_sqlite
 from support.old_version import make_old_version
+from support.planted import catches
 from support.running import kill_after, run, run_command
 from support.server.waits import wait_for
 from support.serving import OFFICE, Index
@@ -88,6 +89,7 @@ class TestKilled:
             looked(is_sound(killing.program, path, [killing.judge.rows(LINES)]))
 
 
+@catches("tests/support/acknowledged.py", "self.take(index.claim(name))", "raise OSError", case="0")
 @pytest.mark.parametrize("history", [0, *(pytest.param(it, marks=pytest.mark.slow) for it in range(1, HISTORIES))])
 def test_serve_keeps_what_it_acknowledged(program, folder, chance, looked, history, pytestconfig):
     """One index is served and killed again and again; each round serves the files of the round before."""

@@ -17,6 +17,7 @@ from support.cuts_of_tools import reseal_job, restore_job
 from support.disk.mounted import missing
 from support.judge import Judge
 from support.places import TOP
+from support.planted import catches
 from support.power_cuts import Job, apply_job, init_job, migrate_job, recorded, serve_job, try_states
 from support.running import built, run_command
 
@@ -82,6 +83,11 @@ def cut(program: str, folder: str, job: Job, file_system: str, chance: random.Ra
     looked(not tried.wrong, tried.wrong[:4])
 
 
+@catches("server/lib/package_index/exchange.py", "os.rename(made, db)", "shutil.copyfile(made, db)",
+         case="ext4-restore")
+@catches("server/bin/index-reseal", "put_there(made, new)", "shutil.copyfile(made, new)", case="ext4-reseal")
+@catches("server/lib/package_index/disk.py", "    sync(target)", "    pass",
+         ("server/bin/index-log", "    sync(os.path.dirname(db))", "    pass"), case="ext4-log")
 @pytest.mark.parametrize("name", ["init", "apply", "migrate", "serve", "reseal", "restore", *JOBS])
 def test_a_power_cut_leaves_what_was_answered(program, folder, judge, file_system, name, chance, looked, pytestconfig):
     need(file_system)
@@ -96,6 +102,7 @@ def test_a_power_cut_leaves_what_a_package_that_is_installed_has_made(program, f
         pytestconfig.option.rounds)
 
 
+@catches("tests/support/disk/mounted.py", "        have_own_mounts()", "        pass")
 def test_a_namespace_of_another_program_keeps_nothing_that_is_unmounted(folder):
     """The next mount would find what the kernel has of it in memory, in place of what a power cut left."""
     need("ext4")

@@ -2,6 +2,7 @@
 from __future__ import annotations
 
 import pytest
+from support.planted import catches
 from support.two_machines.latency import LINKS, Upload, round_trips, waits_in
 
 HEAD = """# tracer: nop
@@ -32,6 +33,8 @@ JOURNAL = """\
 """
 
 
+@catches("tests/support/two_machines/latency.py", "147,0 F?W", "147,0 W", case="journal")
+@catches("tests/support/two_machines/latency.py", 'if sectors != "0":', "if sectors:", case="one")
 @pytest.mark.parametrize("trace, waits", [
     ("", 0),
     (FIRST, 1),
