@@ -18,7 +18,7 @@ refutes_looks g old new honest clean = record {
   number = λ count wrong it. wrong (it.found honest).0;
   bytes = λ file body wrong it. wrong (it.found honest);
   history = λ h file body stands wrong it. wrong (it.history honest h stands);
-  rows = λ rows wrong it. wrong (it.walked (it.look.honest honest) clean);
+  rows = λ rows wrong it. let (those, are, is) = it.walked (it.look.honest honest) clean in wrong (sym are ∙ is);
   bearers = λ one wrong it. wrong (it.one_bearer honest one);
 }
 

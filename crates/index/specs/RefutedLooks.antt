@@ -8,7 +8,6 @@ use Rattle.index_desk.specs.Checks.{wrong_charges_in}
 use Rattle.index_desk.specs.Invariants.{KeepsInvariants}
 use Rattle.index_desk.specs.Looks.{HandsOver, LeavesTables, LooksAt, LooksBy, ReadsTables}
 use Rattle.index_desk.specs.Looks.{WalksTables}
-use Rattle.index_desk.specs.PastRows.{AreHeldRowsAfter}
 use Rattle.index_desk.specs.Reports.{ReportFailsOnly, Reports}
 use Rattle.index_desk.specs.declared.desk.report.ReportFault.TheVariants as report_fault
 use Rattle.index_rules.specs.declared.answer.Fault.{Fault}
@@ -56,7 +55,8 @@ pub record RefutesLooks {S : Type 0} (g : Ghosts S) (old new : S) : Type 0 where
       → (¬ (body ≡ body_after h file)) → ¬ FindsBytesOf g old new file body
   -- other rows are passed than those of the held names
   pub rows : (rows : List NameRow) → (¬ (held_rows_in (g.tables old) ≡ rows))
-      → ¬ HandsOver {X = Unit {0}} g old new (Ok tt) held_rows_in AreHeldRowsAfter (λ it. it ≡ rows)
+      → ¬ HandsOver {X = Unit {0}} g old new (Ok tt) (λ S rules s. rules.HeldRows s)
+      (λ it. it ≡ rows)
   -- two users have one token's digest
   pub bearers : HasOneBearer (g.tables old) → (¬ HasOneBearer (g.tables new))
       → ¬ KeepsInvariants g old new

@@ -22,13 +22,13 @@ module _ {S : Type 0} (g : Ghosts S) (old new : S) where
     look = look;
   }
 
-  pub hands_over : {X Rows : Type 0} (result : Result X WalkEnd) (rows_in : Tables → Rows) (AreRowsAfter : History → Rows
-      → Type 0) (Hands : Rows → Type 0)
-      → ((h : History) → StandsFor (g.tables old) h → AreRowsAfter h (rows_in (g.tables old)))
+  pub hands_over : {X Rows : Type 0} (result : Result X WalkEnd) (Are : Finding Rows) (rows_in : Tables → Rows) (Hands : Rows → Type 0)
+      → ((T : Tables) → Are Tables by_tables T (rows_in T))
+      → ((h : History) → StandsFor (g.tables old) h → Are History by_history h (rows_in (g.tables old)))
       → (g.IsHonest old → g.IsClean new → Hands (rows_in (g.tables old))) → (rows : Rows) × Hands rows → WalksTables g old new result
-      → HandsOver g old new result rows_in AreRowsAfter Hands
-  hands_over result rows_in AreRowsAfter Hands after walked given look = record {
-    walked = walked;
+      → HandsOver g old new result Are Hands
+  hands_over result Are rows_in Hands are after walked given look = record {
+    walked = λ honest clean. (rows_in (g.tables old), are (g.tables old), walked honest clean);
     history = λ honest clean h stands. (rows_in (g.tables old), after h stands, walked honest clean);
     given = given;
     look = look;

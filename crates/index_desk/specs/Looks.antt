@@ -85,14 +85,17 @@ pub record LooksBy {S X : Type 0} (g : Ghosts S) (old new : S) (result : Result 
       (λ found. (h : History) → StandsFor (g.tables old) h → Holds History by_history h found)
   pub look : ReadsTables g old new result
 
--- A walk over the rows of the tables, which are those of each history for which they stand. Even if
--- the store is not honest, the taker gets some rows in this way.
+-- rows of a kind are handed over
+abbrev pub HandsThose : {Rows : Type 0} → (Rows → Type 0) → (Rows → Type 0) → Type 0
+HandsThose {Rows} Are Hands = (rows : Rows) × Are rows × Hands rows
+
+-- A walk that hands over the rows that `Are` says by the tables, and by each history for which they
+-- stand. Even if the store is not honest, the taker gets some rows in this way.
 pub record HandsOver {S X Rows : Type 0} (g : Ghosts S) (old new : S) (result : Result X WalkEnd)
-    (rows_in : Tables → Rows) (AreRowsAfter : History → Rows → Type 0)
-    (Hands : Rows → Type 0) : Type 0 where
-  pub walked : g.IsHonest old → g.IsClean new → Hands (rows_in (g.tables old))
-  pub history : g.IsHonest old → g.IsClean new
-      → (h : History) → StandsFor (g.tables old) h
-      → (rows : Rows) × AreRowsAfter h rows × Hands rows
+    (Are : Finding Rows) (Hands : Rows → Type 0) : Type 0 where
+  pub walked : g.IsHonest old → g.IsClean new
+      → HandsThose (Are Tables by_tables (g.tables old)) Hands
+  pub history : g.IsHonest old → g.IsClean new → (h : History) → StandsFor (g.tables old) h
+      → HandsThose (Are History by_history h) Hands
   pub given : (rows : Rows) × Hands rows
   pub look : WalksTables g old new result

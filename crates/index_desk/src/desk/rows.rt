@@ -1,10 +1,9 @@
 //! Rows of the tables: as lists, and by walks that pass them to a taker one at a time.
 ghost use Rattle.std.specs.Prelude.{◌≡◌, option_map};
-ghost use Rattle.index_rules.specs.TableRows.{held_rows_in, is_held_row as is_held_row_lem};
+ghost use Rattle.index_rules.specs.TableRows.{is_held_row as is_held_row_lem};
 ghost use Rattle.index_rules.specs.Walks.{Walks};
-ghost use Rattle.index_desk.specs.Looks.{LooksBy, HandsOver};
-ghost use Rattle.index_desk.specs.PastRows.{AreHeldRowsAfter, AreProjectRowsAfter};
-ghost use Rattle.index_desk.specs.Projects.{WalksProject, project_rows_in};
+ghost use Rattle.index_desk.specs.Looks.{HandsOver, LooksBy};
+ghost use Rattle.index_desk.specs.Projects.{WalksProject};
 
 use super::Desk;
 use index_names::NormalName;
@@ -73,7 +72,7 @@ impl<B: Books> Desk<B> {
         alloc: Global,
         taker: &mut K,
     ) -> Result<(), WalkEnd>
-        ensures { HandsOver B.Books self.old self.new result held_rows_in AreHeldRowsAfter
+        ensures { HandsOver B.Books self.old self.new result (λ S rules s. rules.HeldRows s)
             (λ rows. Walks K.takes K.stops rows taker.old taker.new result) }
     {
         self.books.walk_held(alloc, taker)
@@ -92,7 +91,7 @@ impl<B: Books> Desk<B> {
         taker: &mut K,
     ) -> Result<bool, WalkEnd>
         ensures { HandsOver B.Books self.old self.new result
-            (λ T. project_rows_in T name.now) (λ h. AreProjectRowsAfter h name.now)
+            (λ S rules s. rules.ProjectRows s name.now)
             (λ rows. WalksProject K.takes K.stops rows taker.old taker.new result) }
     {
         if !self.books.is_held(alloc, name)? {

@@ -1,10 +1,11 @@
-use Rattle.std.proofs.Common.{◌≡◌, ◌∙◌, ap, arith, sym, Some}
+use Rattle.std.proofs.Common.{◌≡◌, ◌∙◌, ap, arith, subst, sym, Some}
 use Rattle.std.proofs.lemmas.Grind.{common_steps}
 use Rattle.std.specs.Prelude.{List, Option, option_map}
 use Rattle.index_rules.specs.TableRows.{held_rows_in}
 use Rattle.index_rules.specs.Walks.{Walks}
 use Rattle.index_rules.specs.declared.rows.FileRow.{FileRow}
 use Rattle.index_rules.specs.declared.rows.NameRow.{NameRow}
+use Rattle.index_desk.specs.Looks.{HandsThose}
 use Rattle.index_desk.specs.Projects.{WalksProject, project_rows_in}
 use Rattle.index_pages.specs.Left.{files_left, names_left}
 use Rattle.index_pages.specs.States.{PageStops, PageTakes, state_of}
@@ -13,6 +14,9 @@ use Rattle.index_http.specs.PagePasses.{WritesPageText, fault_of}
 use Rattle.index_http.proofs.PassLemmas.{found, reads, root_fault, root_walks, written}
 use Rattle.index_http.proofs.RestLemmas.{project_open, root_open}
 use Rattle.index_http.proofs.page_text.write_page.Goals as goal
+
+handed : {Rows : Type 0} {those : Rows} {Hands : Rows → Type 0} → HandsThose (λ rows. rows ≡ those) Hands → Hands those
+handed {Rows} {those} {Hands} (rows, are, hands) = subst Hands are hands
 
 pub returns-in-Root : goal.returns-in-Root
 returns-in-Root g c =
@@ -33,7 +37,7 @@ returns-in-Root g c =
     λ rows walks. rw back (page rows walks).1 in
     record {
       written = λ honest clean. rw c.in-Root.is
-          (wrote (held_rows_in (g.B.Books.tables c.args.desk.now)) (walk.ensures.walked honest clean));
+          (wrote (held_rows_in (g.B.Books.tables c.args.desk.now)) (handed (walk.ensures.walked honest clean)));
       given = (Some (root_page_of c.args.served given.0), wrote given.0 given.1);
       look = reads _ _ _ walk.result c.end_text.result (c.end_text.ensures.fault ∙ ap fault_of mapped ∙ root_fault walk.result)
           walk.ensures.look;
@@ -55,7 +59,7 @@ returns-in-Project g c =
       written = λ honest clean. rw (
         c.in-Project.is,
         back,
-      ) (page (project_rows_in (g.B.Books.tables c.args.desk.now) name) (walk.ensures.walked honest clean)).1;
+      ) (page (project_rows_in (g.B.Books.tables c.args.desk.now) name) (handed (walk.ensures.walked honest clean))).1;
       given = (option_map (project_page_of c.args.served name) given.0, rw back (page given.0 given.1).1);
       look = reads _ _ _ walk.result c.end_text-in-Project.result c.end_text-in-Project.ensures.fault walk.ensures.look;
     }
