@@ -9,3 +9,6 @@ pub mod AnswerLemmas
 pub mod AskLemmas
 pub mod Failures
 pub mod RestLemmas
+pub mod ChoiceLemmas
+pub mod FaultReplies
+pub mod HideLemmas

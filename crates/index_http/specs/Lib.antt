@@ -11,3 +11,4 @@ pub mod Shows
 pub mod Shown
 pub mod PageShows
 pub mod Asks
+pub mod Hides

@@ -4,6 +4,7 @@
 mod change;
 mod connection;
 mod get;
+pub mod laws;
 mod page_passes;
 mod page_replies;
 mod page_text;
