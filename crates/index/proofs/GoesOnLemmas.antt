@@ -1,33 +1,22 @@
 -- The history after any runs goes on from the one before them.
-use Rattle.std.proofs.Common.{◌≡◌, ℕ, Bool, true, false, List, [], ◌∷◌, Option, Some, None, Result, Ok, Err, length, sym, subst, inl, inr}
+use Rattle.std.proofs.Common.{◌≡◌, ℕ, List, [], ◌∷◌, Option, Some, None, Result, length, sym, subst, inl, inr}
 use Rattle.std.proofs.lemmas.Bool.{cases_lt}
 use Rattle.sqlite.specs.Recovery.{Image}
-use Rattle.index_cli.specs.Connections.{Exchange}
 use Rattle.index_cli.specs.Lines.{longest_line}
-use Rattle.index_cli.specs.Serving.{ExchangesAreAnswered}
 use Rattle.index_cli.specs.Telling.{TextAnswersLines, TextAnswersParsedLine}
 use Rattle.index_cli.specs.LineCalls.{LineCallsLeave}
 use Rattle.index_cli.proofs.Choices.{LinesEnd-choice, LeavingTables-choice, LineCallsLeave-choice}
 use Rattle.index_desk.specs.Rules.{by_history}
-use Rattle.index_http.specs.Ends.{ReplyEnds}
-use Rattle.index_http.specs.Exchanges.{Acts, MessageGetsText, RequestGetsReply}
-use Rattle.index_http.specs.Replies.{Reply}
-use Rattle.index_http.specs.declared.connection.IoEnd.{IoEnd}
-use Rattle.index_http.specs.declared.connection.IoEnd.TheVariants as io
 use Rattle.index_json.specs.Line.{line_of}
 use Rattle.index_json.specs.declared.line.Line.{Line}
 use Rattle.index_json.specs.declared.line.Line.TheVariants as line
-use Rattle.index_message.specs.Requests.{HttpRequest}
-use Rattle.index_message.specs.declared.message.Message.{Message}
-use Rattle.index_message.specs.declared.message.Message.TheVariants.{Faulty, Whole}
 use Rattle.index_rules.specs.declared.answer.Answer.{Answer}
 use Rattle.index_rules.specs.declared.answer.Answer.TheVariants.{Accepted, Already, Refused, Fault}
 use Rattle.index_rules.specs.declared.call.Call.{Call}
-use Rattle.index_rules.specs.History.{History, begins, more}
+use Rattle.index_rules.specs.History.{History}
 use Rattle.index_rules.specs.FirstTables.{first_tables}
 use Rattle.index_rules.specs.Laws.{IsFrontOf}
 use Rattle.index_rules.specs.Legal.{IsLegal, history_after}
-use Rattle.index_rules.specs.Maps.{Bytes}
 use Rattle.index_rules.specs.Tables.{Tables}
 use Rattle.index.specs.declared.end.End.{End}
 use Rattle.index.specs.Chains.{Carries, ComesByRun, ComesByRuns, KeepsSome, LeadTo, LeadsOn, MayBecome, MayCarry}

@@ -28,7 +28,7 @@ use Rattle.index_rules.specs.declared.answer.Answer.{Answer}
 use Rattle.index_rules.specs.declared.call.Call.{Call}
 use Rattle.index_rules.specs.FirstTables.{first_tables}
 use Rattle.index_rules.specs.History.{History, begins}
-use Rattle.index_rules.specs.Legal.{IsLegal, history_after, verdict_after}
+use Rattle.index_rules.specs.Legal.{IsLegal}
 use Rattle.index_rules.specs.Maps.{Bytes}
 use Rattle.index_rules.specs.StandsFor.{StandsFor}
 use Rattle.index_rules.specs.Tables.{Tables}

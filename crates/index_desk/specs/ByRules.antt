@@ -1,5 +1,4 @@
 -- What holds by the tables, and by each legal history for which they stand.
-use Rattle.std.specs.Prelude.{◌≡◌}
 use Rattle.index_rules.specs.declared.books.Books.{Ghosts}
 use Rattle.index_rules.specs.Facts.{HasOneBearer}
 use Rattle.index_rules.specs.History.{History}
