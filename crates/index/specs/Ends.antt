@@ -1,10 +1,11 @@
 -- The ends of the program with status 1, and the faults of other layers behind them.
-use Rattle.std.specs.Prelude.{ℕ, ◌&&◌, ◌≡◌, Bool, true, false, None, Result, Ok, Err}
+use Rattle.std.specs.Prelude.{ℕ, ◌&&◌, ◌≡◌, Bool, true, false, None, Result, Ok, Err, IfErr, IsTrue}
 use Rattle.std.specs.Prelude.{if◌then◌else◌}
 use Rattle.sqlite.specs.declared.error.Error.{Error}
 use Rattle.sqlite.specs.declared.error.Error.TheVariants.{SqliteFailure}
 use Rattle.sqlite.specs.declared.error.ErrorCode.TheVariants as code
 use Rattle.sqlite_disk.specs.declared.Disk.{Ghosts}
+use Rattle.index_cli.specs.Causes.{HaveFailed}
 use Rattle.index_cli.specs.Ends.{RunFailsOnly}
 use Rattle.index_cli.specs.declared.end.LineEnd.{LineEnd}
 use Rattle.index_cli.specs.declared.end.ServeEnd.{ServeEnd}
@@ -80,6 +81,11 @@ ServingIsCaused CannotAccept result =
 abbrev pub ReportIsCaused : {K : Type 0} → SinkStep K → Result ℕ End → Type 0
 ReportIsCaused sink result = result ≡ Err end.WriteFault
     → HasFailed (sink.out.failures sink.old) (sink.out.failures sink.new)
+
+-- work ended as a failed database only if a call of it failed meanwhile
+abbrev pub StoreIsCaused : ℕ → ℕ → Result ℕ End → Type 0
+StoreIsCaused before now result =
+    IfErr result (λ why. IsTrue (is_store why) → HaveFailed 1 before now)
 
 -- ---- closing
 

@@ -19,7 +19,7 @@ ghost use Rattle.index_tables.specs.Opened.{IsCreated};
 ghost use Rattle.index.specs.declared.end.End.{End as EndData};
 ghost use Rattle.index.specs.Causes.{IsKnown, IsObject, SchemaHasCause, other_object};
 ghost use Rattle.index.specs.Chains.{InitLeadsOn, WorkLeadsOn};
-ghost use Rattle.index.specs.Ends.{closing_of, is_fault_end};
+ghost use Rattle.index.specs.Ends.{StoreIsCaused, closing_of, is_fault_end};
 ghost use Rattle.index.specs.Openings.{IsCleanClosed, IsOpenedOn, IsToldOf, IsUnmade, IsWhyRefused};
 ghost use Rattle.index.specs.Openings.{IsWhyUnfound, IsWhyUnmade, IsWhyUnused, UnusedLeaves};
 ghost use Rattle.index.specs.Runs.{Created, CreatedInLog, InitEndsOnFiles, RunEndsOnFiles, WorkEndsOnConnection};
@@ -99,6 +99,7 @@ pub trait Work {
         ensures clean { B.IsClean desk.new → B.IsClean desk.old }
         // An early end is told only for its cause in this work.
         ensures caused { IsCaused self.old self.new result }
+        ensures store { StoreIsCaused (B.stores desk.old) (B.stores desk.new) result }
         // A failed store is never reported as out of memory.
         ensures stores { result ≡ Err End.OutOfMemory → B.stores desk.new ≡ B.stores desk.old };
 }

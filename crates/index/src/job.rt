@@ -284,7 +284,7 @@ impl<K: Sink> Work for Reporting<K> {
         0
     }
 
-    #[tactic(auto, using(crate::proofs::CausedLemmas::report_is_caused))]
+    #[tactic(auto, using(crate::proofs::CausedLemmas::report_is_caused, crate::proofs::CausedLemmas::report_store))]
     fn run<B: CachesAnswers>(&mut self, rt: &HostRuntime, desk: &mut Desk<B>) -> Result<u64, End> {
         desk.report(rt.alloc(), &mut self.sink)?;
         Ok(0)
@@ -325,7 +325,7 @@ impl Work for Checking {
         0
     }
 
-    #[tactic(auto, using(crate::proofs::FaultLemmas::desk_fault_is_fault))]
+    #[tactic(auto, using(crate::proofs::FaultLemmas::desk_fault_is_fault, crate::proofs::CausedLemmas::look_store))]
     fn run<B: CachesAnswers>(&mut self, rt: &HostRuntime, desk: &mut Desk<B>) -> Result<u64, End> {
         Ok(desk.check(rt.alloc())?)
     }

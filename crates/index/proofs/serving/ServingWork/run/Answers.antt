@@ -1,6 +1,6 @@
 use Rattle.std.proofs.Common.{Ok, Err}
 use Rattle.index_cli.proofs.Clauses.{by_each_history, by_the_tables, crash, crash_by_history, history_up_to_a_fault, up_to_a_fault}
-use Rattle.index.proofs.CausedLemmas.{listening_is_caused, serving_is_caused}
+use Rattle.index.proofs.CausedLemmas.{listening_is_caused, listening_store, serving_is_caused, serving_store}
 use Rattle.index.proofs.ServesLemmas.{among, none_answered, none_left, serves_done, serves_left, serves_told}
 use Rattle.index.proofs.serving.ServingWork.run.Goals as goal
 
@@ -70,6 +70,12 @@ returns-in-Err-ended-clause-crash g c = λ honest clean one T may.
 pub returns-in-Err-clause-caused : goal.returns-in-Err-clause-caused
 returns-in-Err-clause-caused g c = listening_is_caused _ _ c.in-Err.ensures.fault
 
+pub returns-in-Err-clause-store : goal.returns-in-Err-clause-store
+returns-in-Err-clause-store g c = listening_store _ _ _ c.in-Err.ensures.fault
+
 pub returns-in-Err-ended-clause-caused : goal.returns-in-Err-ended-clause-caused
 returns-in-Err-ended-clause-caused g c =
     serving_is_caused _ (Err c.in-Err-ended.early) (λ is. c.end.ensures.refused (c.in-Err-ended.ensures.read is))
+
+pub returns-in-Err-ended-clause-store : goal.returns-in-Err-ended-clause-store
+returns-in-Err-ended-clause-store g c = serving_store _ _ (Err c.in-Err-ended.early) c.in-Err-ended.ensures.store
