@@ -63,7 +63,7 @@ become h h' (call ∷ calls) (Fault fault ∷ answers) T (inr it) = after_call_i
 
 -- ---- a run
 
-carried_on : (task : Task) (result : Result ℕ End) (h h' : History) (T' : Tables) → Carries task result h h' T' → IsFrontOf h h'
+pub carried_on : (task : Task) (result : Result ℕ End) (h h' : History) (T' : Tables) → Carries task result h h' T' → IsFrontOf h h'
 carried_on (AnswerLines given left had has) result h h' T' it =
     (LinesEnd-choice (IsFrontOf h h') (λ lines text T. TextAnswersLines by_history h lines text h') (λ a lines text T. Unit {0}) T'
     (λ lines text told. (told_lines h lines text h' told, tt)) given left had has it.0 it.2).0
@@ -91,7 +91,7 @@ may_carry_on CountWrong result h h' T' it = as_is h h' it
 abbrev From : (History → Type 0) → History → Type 0
 From Was h' = (h : History) × Was h × IsFrontOf h h'
 
-by_run : (run : Run) (start next : Image) (it : LeadsOn run start next) → (¬ HoldsNone start) → (Was : History → Type 0) (h' : History)
+pub by_run : (run : Run) (start next : Image) (it : LeadsOn run start next) → (¬ HoldsNone start) → (Was : History → Type 0) (h' : History)
     → ComesByRun run start next it Was h' → From Was h'
 by_run (CreatedRun user token) start next it some Was h' new = absurd (some it.0)
 by_run (InitRun user token) start next it some Was h' (inl was) = (h', was, itself h')

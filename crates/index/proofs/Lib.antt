@@ -26,3 +26,6 @@ pub mod ServesLemmas
 pub mod LinesLemmas
 pub mod RefutedLemmas
 pub mod RefusedLemmas
+pub mod AlikeLemmas
+pub mod AgreeLemmas
+pub mod WrongBytes

@@ -1,3 +1,4 @@
+pub mod Agree
 pub mod Causes
 pub mod Chains
 pub mod Ends
