@@ -6,3 +6,4 @@ pub mod Adopted
 pub mod Reopened
 pub mod Written
 pub mod Placed
+pub mod Places

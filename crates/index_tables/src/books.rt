@@ -219,7 +219,7 @@ impl<S: Alter, V: Version> Books for SqlBooks<S, V> {
 }
 
 /// The count of failures after one more call, up to 18,446,744,073,709,551,615.
-fn next_count(failures: u64, is_right: bool) -> u64
+pub(crate) fn next_count(failures: u64, is_right: bool) -> u64
     ensures { result ≡ next_count failures is_right }
 {
     if is_right {
@@ -255,7 +255,7 @@ fn ends_by_store(ended: &Result<(), WalkEnd>) -> bool
 }
 
 /// Whether a call failed with a fault of the store.
-fn fails_by_store<T>(told: &Result<T, Fault>) -> bool
+pub(crate) fn fails_by_store<T>(told: &Result<T, Fault>) -> bool
     ensures { result ≡ fails_by_store told.now }
 {
     matches!(told, Err(Fault::Store))

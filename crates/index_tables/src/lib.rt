@@ -7,6 +7,7 @@ mod create;
 pub mod laws;
 mod opening;
 mod placed;
+mod places;
 pub mod version;
 
 pub use opening::Unopened;
