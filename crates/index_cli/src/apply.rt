@@ -58,7 +58,7 @@ pub fn apply_lines<S: Source, K: Sink, B: Books>(
     ensures limit { (left : ℕ)
         × Charges MOST_BYTES left (S.remaining source.old) (S.remaining source.new) }
 
-    // However it ends: at most one user has a token's digest, and charges that add up still add up.
+    // However it ends: at most one user still has each token's digest, and charges that add up still add up.
     ensures keeps { KeepsInvariants B.Books desk.old desk.new }
 {
     let mut line = Vec::new(alloc);

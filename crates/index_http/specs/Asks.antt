@@ -1,6 +1,6 @@
 -- The call that a message makes, and what a crash may leave once the call was taken.
 use Rattle.std.specs.Prelude.{Err, None, Option, Result, Some, [], false, if◌then◌else◌, true, ℕ}
-use Rattle.std.specs.Prelude.{◌≡◌, ◌⊎◌}
+use Rattle.std.specs.Prelude.{◌+◌, ◌≡◌, ◌⊎◌}
 use Rattle.std.specs.Io.KnownBytes.{Keeps}
 use Rattle.index_io.specs.Bytes.{IsInput}
 use Rattle.index_rules.specs.declared.answer.Answer.{Answer}
@@ -11,18 +11,22 @@ use Rattle.index_desk.specs.Invariants.{KeepsInvariants}
 use Rattle.index_desk.specs.Looks.{LeavesTables}
 use Rattle.index_desk.specs.Rules.{by_tables}
 use Rattle.index_desk.specs.Takes.{Takes}
-use Rattle.index_message.specs.Messages.{IsMessage, is_faulty}
+use Rattle.index_message.specs.Heads.{longest_head}
+use Rattle.index_message.specs.Lengths.{longest_upload}
+use Rattle.index_message.specs.Messages.{EndsUnfinished, IsMessage, MayHaveHead, is_faulty}
+use Rattle.index_message.specs.Reads.{BytesTakenAtMost, SourceStep}
 use Rattle.index_message.specs.Resources.{is_head, is_put, is_reading}
 use Rattle.index_message.specs.declared.message.Message.{Message}
 use Rattle.index_message.specs.declared.message.Message.TheVariants.{Faulty, Whole}
-use Rattle.index_http.specs.Ends.{DeskRepliesByTables, LastsOrShows, ReplyEnds}
-use Rattle.index_http.specs.Exchanges.{MessageGetsText, call_of}
+use Rattle.index_http.specs.Ends.{DeskRepliesByHistory, DeskRepliesByTables, LastsOrFails}
+use Rattle.index_http.specs.Ends.{LastsOrShows, ReplyEnds}
+use Rattle.index_http.specs.Exchanges.{InputGetsText, MessageGetsText, call_of}
 use Rattle.index_http.specs.Replies.{answer_reply, reply_text}
-use Rattle.index_http.specs.Sends.{ReplyFailsOnly, is_cut, is_silent}
-use Rattle.index_http.specs.Shows.{asks_page, is_look}
+use Rattle.index_http.specs.Sends.{ReplyFailsOnly, StreamFailsOnly, is_cut, is_silent}
+use Rattle.index_http.specs.Shows.{GivesMessage, asks_page, is_look}
 use Rattle.index_http.specs.Steps.{DeskStep, SinkStep}
 use Rattle.index_http.specs.declared.connection.IoEnd.{IoEnd}
-use Rattle.index_http.specs.declared.connection.IoEnd.TheVariants.{OutOfMemory}
+use Rattle.index_http.specs.declared.connection.IoEnd.TheVariants.{OutOfMemory, ReadFault}
 
 -- the call that a message makes at a moment: none if it only reads, or if its body is not a valid
 -- request
@@ -88,4 +92,53 @@ pub record MessageIsAnswered {S K : Type 0} (at : ℕ) (message : Message) (desk
   -- only a page is cut short, and no table changed then
   pub cut : is_cut result ≡ true → LeavesTables desk.books desk.old desk.new
   pub sends : ReplyFailsOnly sink.out sink.old sink.new (asks_page message) result
+  pub keeps : KeepsInvariants desk.books desk.old desk.new
+
+-- ---- a message of a source
+
+-- the bytes that a source had before a call
+abbrev pub given_by : {I : Type 0} → SourceStep I → Option Bytes
+given_by source = source.input.remaining source.old
+
+-- the bytes that it has left
+abbrev pub unread_of : {I : Type 0} → SourceStep I → Option Bytes
+unread_of source = source.input.remaining source.new
+
+-- a message was read from a source and answered on a sink, or the connection ended earlier
+pub record AnswersOne {I S K : Type 0} (at : ℕ) (source : SourceStep I) (desk : DeskStep S)
+    (sink : SinkStep K) (result : Result (Unit {0}) IoEnd) : Type 0 where
+  -- by the tables: the reply is that to the message that the input begins with, or a fault, and
+  -- these tables follow
+  pub tables : DeskRepliesByTables
+      (λ cause T. InputGetsText by_tables cause at T (given_by source)) desk sink result
+  -- by a legal history for which the tables stood: the reply is that to the message, and the
+  -- history with the accepted call has the new tables
+  pub history : DeskRepliesByHistory at (given_by source) desk sink result
+  -- the desk takes at most one call, the message's, and the reply has its answer; otherwise no
+  -- table changes, and a crash leaves nothing new
+  pub asks : AsksDesk at (given_by source) desk sink result
+  -- if memory ran out, nothing was asked of the desk or the message only reads: the answer to a
+  -- call is always replied
+  pub memory : result ≡ Err OutOfMemory
+      → (desk.new ≡ desk.old) ⊎ GivesMessage is_look (given_by source)
+  -- a message whose head can't be read, or whose path has no route, never ends as out of memory
+  pub readable : result ≡ Err OutOfMemory → MayHaveHead (given_by source) (unread_of source)
+  -- if a fault shuts the store or a call of the books fails, a whole request came, and the bytes
+  -- that were sent show it
+  pub lasts : LastsOrFails at (given_by source) desk sink
+  -- a failed store never ends as out of memory
+  pub stores : result ≡ Err OutOfMemory → desk.books.stores desk.new ≡ desk.books.stores desk.old
+  -- a fault is returned only for its cause, and nothing else failed
+  pub fails : StreamFailsOnly source.input sink.out source.old source.new sink.old sink.new result
+  -- a read fails only if the message is not whole yet, and then the desk was not asked: nothing is
+  -- read beyond a message
+  pub prompt : result ≡ Err ReadFault
+      → (desk.new ≡ desk.old) × EndsUnfinished (given_by source) (unread_of source)
+  -- only a page is cut short, and no table changed then
+  pub cut : is_cut result ≡ true
+      → LeavesTables desk.books desk.old desk.new × GivesMessage asks_page (given_by source)
+  -- no more is read than the longest head and the longest upload
+  pub limit : BytesTakenAtMost (longest_head + longest_upload) (given_by source) (unread_of source)
+  -- however it ends: at most one user still has each token's digest, and charges that add up still
+  -- add up
   pub keeps : KeepsInvariants desk.books desk.old desk.new

@@ -57,8 +57,8 @@ abbrev pub BecomesBy : (Tables → Tables) → PlainBooks → PlainBooks → Typ
 BecomesBy change old new = Becomes (change (plain_tables old)) old new
 
 -- the change is made, and no failure is counted
-abbrev pub Writes : Change → PlainBooks → PlainBooks → Type 0
-Writes change = BecomesBy (means change)
+abbrev pub BecomesAfter : Change → PlainBooks → PlainBooks → Type 0
+BecomesAfter change = BecomesBy (means change)
 
 -- the change is made, or, if memory ran out, no table has changed; the failure is not counted here
 pub record Makes {E : Type 0} (change : Change) (old new : PlainBooks)

@@ -1,8 +1,10 @@
 -- What a call of the books does besides what it finds or writes.
-use Rattle.std.specs.Prelude.{◌≡◌, ℕ, Bool, not, is_ok, Result, IsTrue}
+use Rattle.std.specs.Prelude.{◌≡◌, ◌⊎◌, ℕ, Bool, not, is_ok, Result, OnOk, OnErr, IsTrue}
 use Rattle.index_io.specs.Counts.{next_count}
 use Rattle.index_rules.specs.declared.answer.Fault.{Fault}
+use Rattle.index_rules.specs.declared.change.Change.{Change}
 use Rattle.index_rules.specs.declared.rows.WalkEnd.{WalkEnd}
+use Rattle.index_rules.specs.Effect.{means}
 use Rattle.index_rules.specs.Tables.{Tables}
 use Rattle.index_rules.specs.StoreFaults.{CountsStoreFault, fails_by_store, ends_by_store}
 use Rattle.index_rules.specs.Walks.{has_fault}
@@ -53,9 +55,24 @@ pub record LooksUp {S : Type 0} (books : Model S) (old new : S)
   pub lasts : IsTrue succeeds → books.IsHonest old → books.IsClean new → books.IsHonest new
   pub crash : (T : Tables) → books.may_leave new T → books.may_leave old T
 
--- a write with this result; it fails if the result is an error
-abbrev pub WritesOrFails : {S A : Type 0} → Model S → S → S → Result A Fault → Type 0
-WritesOrFails books old new result = Calls books old new (is_ok result) (fails_by_store result)
+-- a write of a change with this result; it fails if the result is an error
+pub record Writes {S : Type 0} (books : Model S) (old new : S) (change : Change)
+    (result : Result (Unit {0}) Fault) : Type 0 where
+  -- after a write that succeeds, the tables of an honest store have the change
+  pub written : books.IsHonest new
+      → OnOk result (books.tables new ≡ means change (books.tables old))
+  -- after one that fails they are as they were
+  pub unchanged : books.IsHonest new → OnErr result (books.tables new ≡ books.tables old)
+  -- a write that succeeds leaves the store honest, if it is still clean
+  pub lasts : OnOk result (books.IsClean new → books.IsHonest new)
+  -- a crash leaves what it could leave before; or the tables with the change, if the store was
+  -- honest before the write
+  pub crash : (T : Tables) → books.may_leave new T
+      → books.may_leave old T ⊎ (books.IsHonest old × (T ≡ means change (books.tables old)))
+  -- after a write that succeeds in an honest store it leaves the tables with the change alone
+  pub alone : books.IsHonest old → OnOk result ((T : Tables) → books.may_leave new T
+      → T ≡ means change (books.tables old))
+  pub call : Calls books old new (is_ok result) (fails_by_store result)
 
 -- a look with this result; it fails if the result is an error
 abbrev pub Looks : {S A : Type 0} → Model S → S → S → Result A Fault → Type 0

@@ -1,12 +1,11 @@
 //! The tables, as a trait of the store that holds them.
-ghost use Rattle.std.specs.Prelude.{◌≡◌, ◌⊎◌, ℕ, IfOk, OnOk, OnErr};
+ghost use Rattle.std.specs.Prelude.{◌≡◌, ℕ, IfOk};
 ghost use Rattle.std.specs.FinMap.{get};
 ghost use Rattle.index_rules.specs.Tables.{Tables};
 ghost use Rattle.index_rules.specs.Facts.{Sees};
 ghost use Rattle.index_rules.specs.Verdict.{is_held as is_held_lem};
-ghost use Rattle.index_rules.specs.Effect.{means};
 ghost use Rattle.index_rules.specs.TableRows.{file_rows_in, held_rows_in, name_rows_in};
-ghost use Rattle.index_rules.specs.Calls.{Looks, Scans, WritesOrFails, counts, model};
+ghost use Rattle.index_rules.specs.Calls.{Looks, Scans, Writes, counts, model};
 ghost use Rattle.index_rules.specs.Results.{Returns, ReturnsItems};
 ghost use Rattle.index_rules.specs.Walks.{Walks, WalksSome};
 
@@ -52,17 +51,8 @@ pub trait Books {
 
     /// Writes a change. If it fails, the tables are as they were; after a crash they may be so or have the change.
     fn write(&mut self, alloc: Global, change: Change) -> Result<(), Fault>
-        ensures written { IsHonest self.new
-            → OnOk result (tables self.new ≡ means change (tables self.old)) }
-        ensures unchanged { IsHonest self.new → OnErr result (tables self.new ≡ tables self.old) }
-        ensures lasts { OnOk result (IsClean self.new → IsHonest self.new) }
-        ensures crash { (T : Tables) → may_leave self.new T →
-            may_leave self.old T ⊎ (IsHonest self.old × (T ≡ means change (tables self.old))) }
-        ensures alone { IsHonest self.old → OnOk result ((T : Tables) → may_leave self.new T →
-            T ≡ means change (tables self.old)) }
-        ensures call { WritesOrFails
-            (model tables IsHonest IsClean may_leave (counts failures stores))
-            self.old self.new result };
+        ensures { Writes (model tables IsHonest IsClean may_leave (counts failures stores))
+            self.old self.new change result };
 
     /// Whether a name is held. It changes no table.
     fn is_held(&mut self, alloc: Global, name: &NormalName) -> Result<bool, Fault>

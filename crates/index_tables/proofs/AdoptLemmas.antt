@@ -21,6 +21,7 @@ use Rattle.index_sql_opening.specs.Names.{has_all_of, has_meta, has_table}
 use Rattle.index_sql_opening.specs.Versions.{FailsToReadVersion, VersionQueryFailsInside, begun}
 use Rattle.index_rules.specs.declared.answer.Fault.{Fault}
 use Rattle.index_rules.specs.declared.answer.Fault.TheVariants as fault
+use Rattle.index_sql_schema.proofs.BearerLemmas.{one_bearer}
 use Rattle.index_sql_schema.proofs.SelectVersion.{selects}
 use Rattle.index_sql_schema.proofs.VersionLemmas.{raised_tells}
 use Rattle.index_sql_schema.specs.FirstVersion.{IsAnyVersion, IsFirstVersion, first_version_schema}
@@ -34,7 +35,8 @@ use Rattle.index_tables.specs.declared.adopt.Kind.TheVariants.{FirstVersion}
 use Rattle.index_tables.specs.Adopted.{Adopts, AreHandedOn, DatabaseFailsToOpen, DatabaseHasVersion, foreign_tables_fault, refusal_by}
 use Rattle.index_tables.specs.Adopted.{HasVersionOne, IsFound, IsOurs, IsRaised, IsReason, IsReasonOfKind, StandAsFound, refusal_in}
 use Rattle.index_tables.specs.Adopted.{version_of}
-use Rattle.index_tables.specs.Opened.{AreOpened, CrashLeavesOrMakes, IsFault, IsUnopened, StoreForRefusal, open_fault_by}
+use Rattle.index_tables.specs.Opened.{AreOpened, CrashLeavesOrMakes, IsFault, IsUnopened, RefusesFound, StoreForRefusal, open_fault_by}
+use Rattle.index_tables.proofs.OpenedLemmas.{unopened_by}
 
 -- one set of tables is found in a database
 found_once : (db : Database) (T was : Tables) → IsFound db T → IsFound db was → T ≡ was
@@ -83,6 +85,43 @@ memory_alone (Some version) first bans is = version_alone (version == 1) (versio
 no_memory : (schema : Schema) (version : Option ℕ) → OutOfMemory ≡ refusal_in schema version → ⊥
 no_memory schema version is = memory_alone version (has_all_of schema first_version_schema.tables) (has_table schema (codes "bans"))
     (sym is)
+
+-- ---- an adoption as a whole
+
+module _ {S : Type 0} (g : Ghosts S) where
+  -- books that were opened as the index found
+  pub adopted : {Reason : Held S → Held S → OpenFault → Type 0} (old : Held S) (books : BooksState S)
+      → (IsWorking (state g books.conn) → IsFound (state g old).now (tables_of g books.conn))
+      → (IsWorking (state g books.conn) → AreHandedOn (state g old).now (meta_in (state g books.conn).now.trees))
+      → AreOpened 2 g IsRaised old books → Adopts g Reason old (Ok books)
+  adopted old books found meta opened = record {
+    found = found;
+    history = λ working. stand_as_found (state g old).now (tables_of g books.conn) (found working);
+    one_bearer = λ working. one_bearer (state g books.conn).now (opened.lasts (opened.was_working working) working.clean).index;
+    meta = meta;
+    opened = opened;
+    why = tt;
+    refused = tt;
+  }
+
+  pub not_adopted : {Reason : Held S → Held S → OpenFault → Type 0} (old : Held S) (refused : Unopened S)
+      → RefusesFound refused.why → IsUnopened g IsRaised Reason old refused → Adopts g Reason old (Err refused)
+  not_adopted old refused why it = record {
+    found = tt;
+    history = tt;
+    one_bearer = tt;
+    meta = tt;
+    opened = tt;
+    why = why;
+    refused = it;
+  }
+
+  -- what is not adopted for one reason is not for a weaker one
+  pub adopts_by : {Reason Other : Held S → Held S → OpenFault → Type 0} (old : Held S) (result : Result (BooksState S) (Unopened S))
+      → ((refused : Unopened S) → Reason old refused.conn refused.why → Other old refused.conn refused.why)
+      → Adopts g Reason old result → Adopts g Other old result
+  adopts_by old (Ok books) weaker it = adopted old books it.found it.meta it.opened
+  adopts_by old (Err refused) weaker it = not_adopted old refused it.why (unopened_by g old refused (weaker refused) it.refused)
 
 module _ {S : Type 0} (g : Ghosts S) where
   told_is : (held : Held S) (version : Option ℕ) → IsTrue (state g held).is_open → IsOurs (state g held).now
@@ -234,19 +273,11 @@ module _ {S : Type 0} (g : Ghosts S) where
         → (HasCleanDisk (state g b) → version_in (state g a).now.trees ≡ Some 1)
         → IfErr result (λ refused. IsFault refused.why) → Adopts g (StoreForRefusal g asks_of_migration) b result
         → Adopts g (IsReasonOfKind g FirstVersion) a result
-    adopted_after (Ok books) first told fault it = record {
-      found = λ working. subst (λ db. IsFound db (tables_of g books.conn)) (looks.same refl (it.opened.was_working working).clean)
-          (it.found working);
-      meta = λ working. subst (λ db. AreHandedOn db (meta_in (state g books.conn).now.trees))
-          (looks.same refl (it.opened.was_working working).clean) (it.meta working);
-      opened = opened_after books it.opened;
-      why = tt;
-      refused = tt;
-    }
-    adopted_after (Err refused) first told fault it = record {
-      found = tt;
-      meta = tt;
-      opened = tt;
-      why = it.why;
-      refused = refused_after refused first told fault it.refused;
-    }
+    adopted_after (Ok books) first told fault it = adopted g a books
+        (λ working. subst (λ db. IsFound db (tables_of g books.conn)) (looks.same refl (it.opened.was_working working).clean)
+        (it.found working))
+        (λ working. subst (λ db. AreHandedOn db (meta_in (state g books.conn).now.trees))
+        (looks.same refl (it.opened.was_working working).clean) (it.meta working))
+        (opened_after books it.opened)
+    adopted_after (Err refused) first told fault it =
+        not_adopted g a refused it.why (refused_after refused first told fault it.refused)

@@ -18,6 +18,7 @@ use Rattle.index_rules.specs.declared.answer.Fault.TheVariants as fault
 use Rattle.index_rules.specs.declared.open.OpenFault.{OpenFault}
 use Rattle.index_rules.specs.declared.open.OpenFault.TheVariants.{NotAnIndex, OtherVersion}
 use Rattle.index_rules.specs.declared.open.OpenFault.TheVariants.{OutOfMemory, Store}
+use Rattle.index_rules.specs.Facts.{HasOneBearer}
 use Rattle.index_rules.specs.History.{History}
 use Rattle.index_rules.specs.StandsFor.{StandsFor}
 use Rattle.index_rules.specs.Tables.{Tables}
@@ -185,8 +186,19 @@ IsReason g old new why = IsRefusedByVersion g old why
 -- a reason of this kind.
 pub record Adopts {S : Type 0} (g : Ghosts S) (Reason : Held S → Held S → OpenFault → Type 0)
     (old : Held S) (result : Result (BooksState S) (Unopened S)) : Type 0 where
+  -- the tables are those found in the database
   pub found : IfOk result (HaveTables g (IsFound (state g old).now))
+  -- they stand for each history for which those found stand
+  pub history : IfOk result (HaveTables g (StandAsFound (state g old).now))
+  -- at most one user has a token's digest
+  pub one_bearer : IfOk result (HaveTables g HasOneBearer)
+  -- the rows of meta are those found, or those of version 1 with the version raised
   pub meta : IfOk result (HaveMeta g (AreHandedOn (state g old).now))
+  -- no call has failed yet; a crash leaves what it could leave before, or version 2 made of version
+  -- 1; if the connection worked, the tables of the books alone
   pub opened : IfOk result (AreOpened 2 g IsRaised old)
+  -- the reason is `NotAnIndex`, `OtherVersion`, `OutOfMemory` or `Store`
   pub why : IfErr result (λ refused. RefusesFound refused.why)
+  -- on a clean disk the reason is one of this kind, and the database is as it was if the connection
+  -- is still open; a crash leaves what it could leave before, or version 2 made of version 1
   pub refused : IfErr result (IsUnopened g IsRaised Reason old)

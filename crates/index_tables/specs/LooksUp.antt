@@ -34,10 +34,6 @@ module _ {S : Type 0} (number : ℕ) (g : Ghosts S) where
     faults = calls.counts (λ kept. kept.failures) (λ kept. kept.stores);
   }
 
-  -- the facts of the trait on each call
-  abbrev pub SqlCalls : (old new : BooksState S) (succeeds is_store_fault : Bool) → Type 0
-  SqlCalls = calls.Calls sql_model
-
   -- the facts of the trait on each look
   abbrev pub LooksOrFails : (old new : BooksState S) (succeeds is_store_fault : Bool) → Type 0
   LooksOrFails = calls.LooksUp sql_model

@@ -2,16 +2,13 @@
 ghost use Rattle.std.specs.Prelude.{◌≡◌, false, IfOk, IfErr, IfSome, IsTrue};
 ghost use Rattle.sqlite.specs.Held.{state};
 ghost use Rattle.sqlite.specs.State.{HasCleanDisk};
-ghost use Rattle.index_rules.specs.Facts.{HasOneBearer};
 ghost use Rattle.index_sql_opening.specs.Making.{RestsAs};
 ghost use Rattle.index_sql_opening.specs.Migrated.{asks_of_migration};
 ghost use Rattle.index_sql_opening.specs.Names.{has_meta};
-ghost use Rattle.index_tables.specs.Opened.{AreOpened, HaveMeta, HaveTables, IsFault};
-ghost use Rattle.index_tables.specs.Opened.{IsRefusal, IsRefusedAs, IsUnopened, RefusesFound};
-ghost use Rattle.index_tables.specs.Opened.{StoreForRefusal};
-ghost use Rattle.index_tables.specs.Adopted.{Adopts, AreHandedOn, HasSchema, IsFound, IsOfKind};
-ghost use Rattle.index_tables.specs.Adopted.{IsOurs, IsRaised, IsReason, IsReasonOfKind};
-ghost use Rattle.index_tables.specs.Adopted.{HasVersionOne, StandAsFound};
+ghost use Rattle.index_tables.specs.Opened.{IsFault, IsRefusal, IsRefusedAs, IsUnopened};
+ghost use Rattle.index_tables.specs.Opened.{RefusesFound, StoreForRefusal};
+ghost use Rattle.index_tables.specs.Adopted.{Adopts, HasSchema, HasVersionOne, IsOfKind, IsOurs};
+ghost use Rattle.index_tables.specs.Adopted.{IsRaised, IsReason, IsReasonOfKind};
 ghost use Rattle.index_tables.specs.Adopted.{foreign_tables_fault, refusal_by};
 
 use crate::books::SqlBooks;
@@ -52,15 +49,12 @@ impl<S: Alter> SqlBooks<S, Version2> {
     /// - `Store`: the tables are not as an index has them, or the store fails.
     pub fn adopt(alloc: Global, conn: Connection<S>) -> Result<SqlBooks<S, Version2>, Unopened<S>>
         requires outside { conn.in_transaction ≡ false }
-        ensures found { IfOk result (HaveTables S.Store (IsFound (state S.Store conn).now)) }
-        ensures history { IfOk result (HaveTables S.Store (StandAsFound (state S.Store conn).now)) }
-        ensures one_bearer { IfOk result (HaveTables S.Store HasOneBearer) }
-        ensures meta { IfOk result (HaveMeta S.Store (AreHandedOn (state S.Store conn).now)) }
-        ensures opened { IfOk result (AreOpened 2 S.Store IsRaised conn) }
-        ensures why { IfErr result (λ refused. RefusesFound refused.why) }
-        ensures refused { IfErr result (IsUnopened S.Store IsRaised (IsReason S.Store) conn) }
+        // The books are the index that is found in the database, or why there are none.
+        ensures adopts { Adopts S.Store (IsReason S.Store) conn result }
+        // Without a table `meta` with the columns of the version it is not an index, whatever else fails.
         ensures no_meta { has_meta (state S.Store conn).now.schema ≡ false
             → IsRefusedAs OpenFault.NotAnIndex result }
+        // Of an open index only memory and the store can be the reason, on a clean disk.
         ensures again { IfErr result (λ refused. HasCleanDisk (state S.Store refused.conn)
             → IsTrue (state S.Store conn).is_open → IsOurs (state S.Store conn).now
             → IsFault refused.why) }

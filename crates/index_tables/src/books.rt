@@ -1,5 +1,5 @@
 //! The tables of the index over a connection to it, as `Books`. The connection does each call, which is then counted.
-ghost use Rattle.std.specs.Prelude.{◌≡◌, ◌⊎◌, Err, IfErr, IfOk, OnErr, OnOk, false, is_ok};
+ghost use Rattle.std.specs.Prelude.{◌≡◌, Err, IfErr, IfOk, false, is_ok};
 ghost use Rattle.std.specs.FinMap.{get};
 ghost use Rattle.sqlite.specs.Held.{state};
 ghost use Rattle.index_io.specs.Counts.{next_count};
@@ -7,16 +7,15 @@ ghost use Rattle.index_sql_schema.specs.Faults.{fault_by};
 ghost use Rattle.index_sql_schema.specs.Reasons.{FailsForReason};
 ghost use Rattle.index_sql_reads.specs.ConnectionTables.{tables_of};
 ghost use Rattle.index_sql_reads.specs.Sealed.{IsBoundTo, digest_in};
-ghost use Rattle.index_rules.specs.Effect.{means};
+ghost use Rattle.index_rules.specs.Calls.{Writes};
 ghost use Rattle.index_rules.specs.Facts.{Sees};
 ghost use Rattle.index_rules.specs.TableRows.{file_rows_in, held_rows_in, name_rows_in};
-ghost use Rattle.index_rules.specs.Tables.{Tables};
 ghost use Rattle.index_rules.specs.StoreFaults.{ends_by_store, fails_by_store};
 ghost use Rattle.index_rules.specs.Verdict.{is_held as is_held_lem};
 ghost use Rattle.index_rules.specs.Walks.{has_fault, to_taker};
 ghost use Rattle.index_tables.specs.Adopted.{IsCommitted};
 ghost use Rattle.index_tables.specs.BooksState.{IsHonest, IsWorking};
-ghost use Rattle.index_tables.specs.LooksUp.{KeepsBooksLimit, KeepsMeta, KeepsRecords, LooksFor, SqlCalls, SqlLooks, WalksBooks, with_books};
+ghost use Rattle.index_tables.specs.LooksUp.{KeepsBooksLimit, KeepsMeta, KeepsRecords, LooksFor, SqlLooks, WalksBooks, sql_model, with_books};
 ghost use Rattle.index_tables.specs.Written.{FailsToWrite};
 
 use crate::version::Version;
@@ -108,21 +107,7 @@ impl<S: Alter, V: Version> Books for SqlBooks<S, V> {
 
     #[tactic(auto, using(crate::proofs::WriteLemmas::told_reason, crate::proofs::WriteLemmas::limit_kept, crate::proofs::WriteLemmas::meta_kept))]
     fn write(&mut self, _alloc: Global, change: Change) -> Result<(), Fault>
-        ensures written { IsHonest V.number (state S.Store self.new.conn) → OnOk result
-            (tables_of S.Store self.new.conn ≡ means change (tables_of S.Store self.old.conn)) }
-        ensures unchanged { IsHonest V.number (state S.Store self.new.conn) → OnErr result
-            (tables_of S.Store self.new.conn ≡ tables_of S.Store self.old.conn) }
-        ensures lasts { OnOk result (HasCleanDisk (state S.Store self.new.conn)
-            → IsHonest V.number (state S.Store self.new.conn)) }
-        ensures crash { (T : Tables) → Leaves V.number (state S.Store self.new.conn) T
-            → Leaves V.number (state S.Store self.old.conn) T
-            ⊎ (IsHonest V.number (state S.Store self.old.conn)
-            × (T ≡ means change (tables_of S.Store self.old.conn))) }
-        ensures alone { IsHonest V.number (state S.Store self.old.conn) → OnOk result ((T : Tables)
-            → Leaves V.number (state S.Store self.new.conn) T
-            → T ≡ means change (tables_of S.Store self.old.conn)) }
-        ensures call { SqlCalls V.number S.Store self.old self.new (is_ok result)
-            (fails_by_store result) }
+        ensures writes { Writes (sql_model V.number S.Store) self.old self.new change result }
         // What is written can be read again: its rows are records if they were.
         ensures records { KeepsRecords V.number S.Store self.old self.new }
         ensures limit { KeepsBooksLimit V.number S.Store self.old self.new }

@@ -1,7 +1,7 @@
 //! The changes of a name's state: it is claimed, relinquished, prohibited or allowed.
 ghost use Rattle.std.specs.Prelude.{◌≡◌, true};
 ghost use Rattle.index_rules.specs.declared.change.Change.TheVariants.{Claim, Prohibit, Relinquish, SetQuota};
-ghost use Rattle.index_plain.specs.Plain.{BecomesBy, Makes, Writes, is_of_name, without_all_but_record, without_yanks_and_case};
+ghost use Rattle.index_plain.specs.Plain.{BecomesBy, Makes, BecomesAfter, is_of_name, without_all_but_record, without_yanks_and_case};
 
 use crate::plain::PlainBooks;
 use crate::{name_files, pairs, table};
@@ -58,7 +58,7 @@ impl PlainBooks {
 
     /// The name is free, without owners, yanks and a case.
     fn relinquish(&mut self, name: &NormalName)
-        ensures { Writes (Relinquish name.now) self.old self.new }
+        ensures { BecomesAfter (Relinquish name.now) self.old self.new }
     {
         self.clear(name);
         table::remove(&mut self.names, name);

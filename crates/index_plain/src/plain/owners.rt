@@ -1,7 +1,7 @@
 //! The changes of a name's owners.
 ghost use Rattle.std.specs.Prelude.{◌≡◌, true};
 ghost use Rattle.index_rules.specs.declared.change.Change.TheVariants.{AddOwner, RemoveOwner};
-ghost use Rattle.index_plain.specs.Plain.{Makes, Writes, is_of_owner};
+ghost use Rattle.index_plain.specs.Plain.{Makes, BecomesAfter, is_of_owner};
 
 use crate::pairs;
 use crate::plain::PlainBooks;
@@ -42,7 +42,7 @@ impl PlainBooks {
 
     /// The user no longer owns the name, and the case ends.
     fn remove_owner(&mut self, name: &NormalName, user: &UserId)
-        ensures { Writes (RemoveOwner name.now user.now) self.old self.new }
+        ensures { BecomesAfter (RemoveOwner name.now user.now) self.old self.new }
     {
         self.end_case(name);
         pairs::remove(&mut self.owners, name, user);

@@ -1,7 +1,7 @@
 //! The changes of a release: of its files and its yank.
 ghost use Rattle.std.specs.Prelude.{◌≡◌, true};
 ghost use Rattle.index_rules.specs.declared.change.Change.TheVariants.{Unyank, Yank};
-ghost use Rattle.index_plain.specs.Plain.{Makes, Writes, is_of_release};
+ghost use Rattle.index_plain.specs.Plain.{Makes, BecomesAfter, is_of_release};
 
 use crate::pairs;
 use crate::plain::PlainBooks;
@@ -72,7 +72,7 @@ impl PlainBooks {
 
     /// The release is no longer yanked, and the case ends.
     fn remove_yank(&mut self, name: &NormalName, release: &Release)
-        ensures { Writes (Unyank name.now release.now) self.old self.new }
+        ensures { BecomesAfter (Unyank name.now release.now) self.old self.new }
     {
         self.end_case(name);
         pairs::remove(&mut self.yanks, name, release);

@@ -5,7 +5,7 @@ use Rattle.index_sql_schema.specs.FirstVersion.{IsFirstVersion}
 use Rattle.index_sql_schema.specs.Index.{IsIndex, version_in}
 use Rattle.index_tables.specs.Adopted.{IsRaised}
 use Rattle.index_tables.specs.declared.adopt.Kind.TheVariants.{FirstVersion}
-use Rattle.index_tables.proofs.AdoptLemmas.{adopted_after}
+use Rattle.index_tables.proofs.AdoptLemmas.{adopted, adopted_after}
 use Rattle.index_tables.proofs.OpenedLemmas.{looked_opened}
 use Rattle.index_tables.proofs.adopt.adopt_kind.Goals as goal
 
@@ -15,14 +15,9 @@ returns-in-Index-Ok-Some-eq2 g c =
     let new = c.read_version.new.conn in
     let index : IsTrue (state g.S.Store old).is_open → IsIndex (state g.S.Store old).now = search rules in
     let told : HasCleanDisk (state g.S.Store new) → version_in (state g.S.Store old).now.trees ≡ Some 2 = search rules in
-    record {
-      found = search rules;
-      meta = search rules;
-      opened = looked_opened 2 g.S.Store IsRaised old new c.in-Index-Ok-Some-eq2.ensures.looks c.requires.rest refl
-          (g.met.S.Store.settled new.store) index told;
-      why = tt;
-      refused = tt;
-    }
+    adopted g.S.Store old _ (search rules) (search rules)
+    (looked_opened 2 g.S.Store IsRaised old new c.in-Index-Ok-Some-eq2.ensures.looks c.requires.rest refl
+    (g.met.S.Store.settled new.store) index told)
 
 pub returns-in-FirstVersion-Ok-Some-eq1 : goal.returns-in-FirstVersion-Ok-Some-eq1
 returns-in-FirstVersion-Ok-Some-eq1 g c =

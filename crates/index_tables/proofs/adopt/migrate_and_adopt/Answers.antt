@@ -3,7 +3,7 @@ use Rattle.sqlite.specs.Held.{state}
 use Rattle.index_tables.specs.Adopted.{IsRaised}
 use Rattle.index_tables.specs.BooksState.{IsWorking}
 use Rattle.index_tables.specs.Opened.{AreOpened}
-use Rattle.index_tables.proofs.AdoptLemmas.{raised_told}
+use Rattle.index_tables.proofs.AdoptLemmas.{adopted, not_adopted, raised_told}
 use Rattle.index_tables.proofs.OpenedLemmas.{made_index, made_opened, made_refused, made_version}
 use Rattle.index_tables.proofs.adopt.migrate_and_adopt.Goals as goal
 
@@ -32,24 +32,15 @@ returns-in-Ok-clause-adopts g c =
     let tells = λ (working : IsWorking (state g.S.Store new)). first (was working).clean (was working).is_open in
     let made = λ (working : IsWorking (state g.S.Store new)). c.in-Ok.ensures.made.made working.clean (was working).is_open
     (tells working).0 in
-    record {
-      found = λ working. inr (record { first = (tells working).0; version = (tells working).1; tables = (made working).tables });
-      meta = λ working. inr (tells working, (made working).meta);
-      opened = opened;
-      why = tt;
-      refused = tt;
-    }
+    adopted g.S.Store old _
+    (λ working. inr (record { first = (tells working).0; version = (tells working).1; tables = (made working).tables }))
+    (λ working. inr (tells working, (made working).meta)) opened
 
 pub returns-in-Err-clause-adopts : goal.returns-in-Err-clause-adopts
 returns-in-Err-clause-adopts g c =
     let first = c.requires.is in
-    record {
-      found = tt;
-      meta = tt;
-      opened = tt;
-      why = inr (inr c.open_fault_of.ensures.fault);
-      refused = made_refused 2 g.S.Store IsRaised c.args.conn c.migrate.new.conn (λ clean o. (first clean o).0)
-          (λ clean o. raised_told (state g.S.Store c.args.conn).now (first clean o))
-          (λ working db _ current is meta. (first working.clean working.is_open, current, is, meta))
-          c.in-Err.error c.in-Err.ensures.made c.requires.rest c.open_fault_of.result (search rules) (λ reason. reason);
-    }
+    not_adopted g.S.Store c.args.conn _ (inr (inr c.open_fault_of.ensures.fault))
+    (made_refused 2 g.S.Store IsRaised c.args.conn c.migrate.new.conn (λ clean o. (first clean o).0)
+    (λ clean o. raised_told (state g.S.Store c.args.conn).now (first clean o))
+    (λ working db _ current is meta. (first working.clean working.is_open, current, is, meta))
+    c.in-Err.error c.in-Err.ensures.made c.requires.rest c.open_fault_of.result (search rules) (λ reason. reason))

@@ -21,10 +21,10 @@ returns-clause-rest g c =
     (c.before-2.view_is ∙ ap (λ (k : BooksState _). k.conn) c.books.view_is)
     (λ left honest is_left over.
     opens_if_clean g.S.Store c.args.conn left over (λ T. T ≡ tables_of over_files c.before-2.inside.conn) IsRaised (IsReason g.S.Store)
-    c.adopt-opened.result found.opened found.refused
+    c.adopt-opened.result found.adopts.opened found.adopts.refused
     (λ it. opens_rest g.S.Store c.before-2.inside.conn c.args.conn left it (before.numbered honest.clean) (before.databases honest.clean)
     honest before.settled is_left
-    c.adopt-opened.result found.found found.again))
+    c.adopt-opened.result found.adopts.found found.again))
 
 pub returns-clause-during : goal.returns-clause-during
 returns-clause-during g c =
@@ -37,6 +37,6 @@ returns-clause-during g c =
     (c.before-2.view_is ∙ ap (λ (k : BooksState _). k.conn) c.books.view_is)
     (λ left A B clean leaves may over.
     opens_if_clean g.S.Store c.args.conn left over (λ T. ∥ (T ≡ A) ⊎ (T ≡ B) ∥₁) IsRaised (IsReason g.S.Store)
-    c.adopt-opened.result found.opened found.refused
+    c.adopt-opened.result found.adopts.opened found.adopts.refused
     (λ it. opens_either g.S.Store c.before-2.inside.conn c.args.conn left it (before.numbered clean) (before.databases clean)
-    A B clean leaves may c.adopt-opened.result found.found found.again))
+    A B clean leaves may c.adopt-opened.result found.adopts.found found.again))

@@ -30,62 +30,41 @@ invariant_of-self g c =
     let makes : MakesChange g.S.Store (means c.args.change) old new c.make_change-made.result = search rules in
     write_keeps_version g.V.Version.number g.S.Store (means c.args.change) old new c.make_change-made.result index makes kept
 
-pub returns-clause-lasts : goal.returns-clause-lasts
-returns-clause-lasts g c =
+pub returns-clause-writes : goal.returns-clause-writes
+returns-clause-writes g c =
     let old = c.args.self.now.conn in
     let new = c.make_change-made.new.conn in
+    let made = c.make_change-made.result in
+    let told = c.into_fault-told.result in
     let index : IsIndexConnection g.S.Store old = search rules in
     let kept : HasVersion g.V.Version.number g.S.Store old =
     subst (λ (b : BooksState _). HasVersion g.V.Version.number g.S.Store b.conn) c.self.view_is c.self.invariant in
-    let makes : MakesChange g.S.Store (means c.args.change) old new c.make_change-made.result = search rules in
-    told_ok _ c.into_fault-told.result c.make_change-made.result c.into_fault-told.ensures.ok
-    (write_lasts g.V.Version.number g.S.Store (means c.args.change) old new c.make_change-made.result index makes kept)
-
-pub returns-clause-crash : goal.returns-clause-crash
-returns-clause-crash g c =
-    let old = c.args.self.now.conn in
-    let new = c.make_change-made.new.conn in
-    let index : IsIndexConnection g.S.Store old = search rules in
-    let kept : HasVersion g.V.Version.number g.S.Store old =
-    subst (λ (b : BooksState _). HasVersion g.V.Version.number g.S.Store b.conn) c.self.view_is c.self.invariant in
-    let makes : MakesChange g.S.Store (means c.args.change) old new c.make_change-made.result = search rules in
+    let makes : MakesChange g.S.Store (means c.args.change) old new made = search rules in
     let shut : IsInvisibleIfShut g.S.Store old new =
     subst (λ held. IsInvisibleIfShut g.S.Store held new)
     ((λ i. (c.self-inside.view_is i).conn) ∙ ap (λ (b : BooksState _). b.conn) c.self.view_is) c.make_change-made.ensures.shut in
-    write_crash g.V.Version.number g.S.Store (means c.args.change) old new c.make_change-made.result index makes kept shut
-
-pub returns-clause-alone : goal.returns-clause-alone
-returns-clause-alone g c honest =
-    let old = c.args.self.now.conn in
-    let new = c.make_change-made.new.conn in
-    let index : IsIndexConnection g.S.Store old = search rules in
-    let kept : HasVersion g.V.Version.number g.S.Store old =
-    subst (λ (b : BooksState _). HasVersion g.V.Version.number g.S.Store b.conn) c.self.view_is c.self.invariant in
-    let makes : MakesChange g.S.Store (means c.args.change) old new c.make_change-made.result = search rules in
-    told_ok _ c.into_fault-told.result c.make_change-made.result c.into_fault-told.ensures.ok
-    (write_alone g.V.Version.number g.S.Store (means c.args.change) old new c.make_change-made.result index makes kept
-    (g.met.S.Store.settled new.store) honest)
-
-pub returns-clause-call : goal.returns-clause-call
-returns-clause-call g c =
-    let old = c.args.self.now.conn in
-    let new = c.make_change-made.new.conn in
-    let index : IsIndexConnection g.S.Store old = search rules in
-    let kept : HasVersion g.V.Version.number g.S.Store old =
-    subst (λ (b : BooksState _). HasVersion g.V.Version.number g.S.Store b.conn) c.self.view_is c.self.invariant in
-    let makes : MakesChange g.S.Store (means c.args.change) old new c.make_change-made.result = search rules in
     let after : BooksState _ = record {
       conn = new;
       failures = c.next_count-self-inside-inside.result;
       stores = c.next_count-self-inside-inside-2.result;
     } in
-    let count : after.failures ≡ next_count c.args.self.now.failures (is_ok c.into_fault-told.result) = search rules in
-    let stores : CountsStoreFault c.args.self.now.stores after.stores (fails_by_store c.into_fault-told.result) = search rules in
+    let count : after.failures ≡ next_count c.args.self.now.failures (is_ok told) = search rules in
+    let stores : CountsStoreFault c.args.self.now.stores after.stores (fails_by_store told) = search rules in
     record {
-      honest = honest_old g.V.Version.number g.S.Store (means c.args.change) old new c.make_change-made.result index makes kept;
-      clean = makes.was_clean;
-      failures = count;
-      stores = stores;
+      written = search rules;
+      unchanged = search rules;
+      lasts = told_ok _ told made c.into_fault-told.ensures.ok
+          (write_lasts g.V.Version.number g.S.Store (means c.args.change) old new made index makes kept);
+      crash = write_crash g.V.Version.number g.S.Store (means c.args.change) old new made index makes kept shut;
+      alone = λ honest. told_ok _ told made c.into_fault-told.ensures.ok
+          (write_alone g.V.Version.number g.S.Store (means c.args.change) old new made index makes kept
+          (g.met.S.Store.settled new.store) honest);
+      call = record {
+        honest = honest_old g.V.Version.number g.S.Store (means c.args.change) old new made index makes kept;
+        clean = makes.was_clean;
+        failures = count;
+        stores = stores;
+      };
     }
 
 pub returns-clause-records : goal.returns-clause-records
