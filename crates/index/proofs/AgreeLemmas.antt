@@ -3,7 +3,6 @@ use Rattle.std.proofs.Common.{◌≡◌, ◌⊎◌, ℕ, zero, suc, List, [], �
 use Rattle.std.specs.Prelude.{Contains}
 use Rattle.std.specs.Coded.{Coded-set, coded_list, coded_ℕ}
 use Rattle.std.proofs.Math.Logic.{∥∥₁_elim, ∥∥₁_map}
-use Rattle.sqlite.specs.Recovery.{Image}
 use Rattle.index_digest.specs.Digest.{sha256}
 use Rattle.index_rules.specs.History.{History}
 use Rattle.index_rules.specs.Laws.{IsFrontOf}
@@ -15,12 +14,11 @@ use Rattle.index_cli.proofs.FilesServed.{points_agree, sent_at_some_point, serve
 use Rattle.index.specs.declared.end.End.{End}
 use Rattle.index.specs.Agree.{AgreeThrough, ClientGot}
 use Rattle.index.specs.Chains.{Carries, EndedRun, EndedRunLeadsOn, LeadTo, LeadsOn, Run}
-use Rattle.index.specs.Runs.{HoldsNone}
+use Rattle.index.specs.Keeping.{FindsAgain, Keeping}
 use Rattle.index.specs.Tasks.{AnswerConnections, Task}
 use Rattle.index.proofs.AlikeLemmas.{alike_got, all_alike, one_alike}
 use Rattle.index.proofs.ChainLemmas.{LegalFor, StandIn, carried, same_for, stand_by_run}
 use Rattle.index.proofs.GoesOnLemmas.{by_run, carried_on, there_by_run}
-use Rattle.index.proofs.ThereLemmas.{current_is_there}
 
 -- bytes have one digest and one size
 abbrev pub Agree : Bytes → Bytes → Type 0
@@ -47,119 +45,122 @@ abbrev AfterRun : (task : Task) (result : Result ℕ End) → History → Tables
 AfterRun task result h T = (later : LegalFor T) × IsFrontOf h later.0
     × ((file bytes : Bytes) → ClientGot (EndedRun task result) file bytes → IsServedAt later.0 file bytes)
 
-after_run : (task : Task) (result : Result ℕ End) (start next : Image) (it : EndedRunLeadsOn task result start next)
-    (was : LegalFor it.before)
-    → AfterRun task result was.0 it.after
-after_run task result start next it was =
-    let then = carried task result it.before it.after it.did was in (
-      then.0,
-      carried_on task result was.0 then.0.0 it.after then.1,
-      client_served task result was.0 then.0.0 it.after then.0.1 then.1,
-    )
+module _ {X : Type 0} (k : Keeping X) (again : FindsAgain k) where
+  after_run : (task : Task) (result : Result ℕ End) (start next : X) (it : EndedRunLeadsOn k task result start next)
+      (was : LegalFor it.before)
+      → AfterRun task result was.0 it.after
+  after_run task result start next it was =
+      let then = carried task result it.before it.after it.did was in (
+        then.0,
+        carried_on task result was.0 then.0.0 it.after then.1,
+        client_served task result was.0 then.0.0 it.after then.0.1 then.1,
+      )
 
--- ---- runs
+  -- ---- runs
 
--- of a list, the first or a later one
-first_or_later : (run : Run) (runs : List Run) (one : Run) → Contains (run ∷ runs) one → (run ≡ one) ⊎ Contains runs one
-first_or_later run runs one (zero, less, is) = inl is
-first_or_later run runs one (suc k, less, is) = inr (k, omega (arith, less), is)
+  -- of a list, the first or a later one
+  first_or_later : (run : Run) (runs : List Run) (one : Run) → Contains (run ∷ runs) one → (run ≡ one) ⊎ Contains runs one
+  first_or_later run runs one (zero, less, is) = inl is
+  first_or_later run runs one (suc k, less, is) = inr (k, omega (arith, less), is)
 
--- bytes that were served before a run are served after it
-still_served : (run : Run) (start next : Image) (leads : LeadsOn run start next) → (¬ HoldsNone start) → (file bytes : Bytes)
-    → StandIn (λ h. IsServedAt h file bytes) start
-    → StandIn (λ h. IsServedAt h file bytes) next
-still_served run start next leads some file bytes stand T holds =
-    ∥∥₁_map (stand_by_run (λ h. IsServedAt h file bytes) run start next stand leads T holds) (λ then.
-    let from = by_run run start next leads some (λ h. IsServedAt h file bytes) then.0.0 then.1 in
-    (then.0, served_later from.0 then.0.0 from.2 file bytes from.1))
+  -- bytes that were served before a run are served after it
+  still_served : (run : Run) (start next : X) (leads : LeadsOn k run start next) → (¬ k.HoldsNone start) → (file bytes : Bytes)
+      → StandIn k again (λ h. IsServedAt h file bytes) start
+      → StandIn k again (λ h. IsServedAt h file bytes) next
+  still_served run start next leads some file bytes stand T holds =
+      ∥∥₁_map (stand_by_run k again (λ h. IsServedAt h file bytes) run start next stand leads T holds) (λ then.
+      let from = by_run k again run start next leads some (λ h. IsServedAt h file bytes) then.0.0 then.1 in
+      (then.0, served_later from.0 then.0.0 from.2 file bytes from.1))
 
--- what a client of a run got is served after it
-now_served : (run : Run) (start next : Image) (leads : LeadsOn run start next) (Was : History → Type 0) → StandIn Was start
-    → (file bytes : Bytes) → ClientGot run file bytes
-    → (¬ HoldsNone next) × StandIn (λ h. IsServedAt h file bytes) next
-now_served run start next leads Was stand file bytes got =
-    let it = subst (λ run. LeadsOn run start next) got.is leads in
-    let here = subst (λ run. ClientGot run file bytes) got.is got in (
-      current_is_there next it.after it.left,
-      λ T holds. ∥∥₁_map (stand it.before it.held) (λ was.
-          let then = after_run _ got.result start next it was.0 in
-          (same_for it.after T (it.left.next T holds) then.0, then.2 file bytes here)),
-    )
+  -- what a client of a run got is served after it
+  now_served : (run : Run) (start next : X) (leads : LeadsOn k run start next) (Was : History → Type 0) → StandIn k again Was start
+      → (file bytes : Bytes) → ClientGot run file bytes
+      → (¬ k.HoldsNone next) × StandIn k again (λ h. IsServedAt h file bytes) next
+  now_served run start next leads Was stand file bytes got =
+      let it = subst (λ run. LeadsOn k run start next) got.is leads in
+      let here = subst (λ run. ClientGot run file bytes) got.is got in (
+        again.there next it.after it.left,
+        λ T holds. ∥∥₁_map (stand it.before it.held) (λ was.
+            let then = after_run _ got.result start next it was.0 in
+            (same_for it.after T (again.same next it.after T it.left holds) then.0, then.2 file bytes here)),
+      )
 
--- two clients of one run
-both_now : (run : Run) (start next : Image) → LeadsOn run start next → (Was : History → Type 0) → StandIn Was start
-    → (file first second : Bytes) → ClientGot run file first → ClientGot run file second
-    → ∥ Agree first second ∥₁
-both_now run start next leads Was stand file first second got got' =
-    let it = subst (λ run. LeadsOn run start next) got.is leads in
-    let here = subst (λ run. ClientGot run file first) got.is got in
-    let here' = subst (λ run. ClientGot run file second) got.is got' in
-    ∥∥₁_map (stand it.before it.held) (λ was.
-    let then = after_run _ got.result start next it was.0 in
-    points_agree then.0.0 then.0.1 file first second (then.2 file first here) (then.2 file second here'))
+  -- two clients of one run
+  both_now : (run : Run) (start next : X) → LeadsOn k run start next → (Was : History → Type 0) → StandIn k again Was start
+      → (file first second : Bytes) → ClientGot run file first → ClientGot run file second
+      → ∥ Agree first second ∥₁
+  both_now run start next leads Was stand file first second got got' =
+      let it = subst (λ run. LeadsOn k run start next) got.is leads in
+      let here = subst (λ run. ClientGot run file first) got.is got in
+      let here' = subst (λ run. ClientGot run file second) got.is got' in
+      ∥∥₁_map (stand it.before it.held) (λ was.
+      let then = after_run _ got.result start next it was.0 in
+      points_agree then.0.0 then.0.1 file first second (then.2 file first here) (then.2 file second here'))
 
--- a client of a run, and what was served before it
-before_and_now : (run : Run) (start next : Image) → LeadsOn run start next → (file first second : Bytes)
-    → StandIn (λ h. IsServedAt h file first) start → ClientGot run file second
-    → ∥ Agree first second ∥₁
-before_and_now run start next leads file first second stand got =
-    let it = subst (λ run. LeadsOn run start next) got.is leads in
-    let here = subst (λ run. ClientGot run file second) got.is got in
-    ∥∥₁_map (stand it.before it.held) (λ was.
-    let then = after_run _ got.result start next it was.0 in
-    points_agree then.0.0 then.0.1 file first second (served_later was.0.0 then.0.0 then.1 file first was.1) (then.2 file second here))
+  -- a client of a run, and what was served before it
+  before_and_now : (run : Run) (start next : X) → LeadsOn k run start next → (file first second : Bytes)
+      → StandIn k again (λ h. IsServedAt h file first) start → ClientGot run file second
+      → ∥ Agree first second ∥₁
+  before_and_now run start next leads file first second stand got =
+      let it = subst (λ run. LeadsOn k run start next) got.is leads in
+      let here = subst (λ run. ClientGot run file second) got.is got in
+      ∥∥₁_map (stand it.before it.held) (λ was.
+      let then = after_run _ got.result start next it was.0 in
+      points_agree then.0.0 then.0.1 file first second (served_later was.0.0 then.0.0 then.1 file first was.1) (then.2 file second here))
 
--- a client of one of some runs, and what was served before them
-before_and_later : (runs : List Run) (start last : Image) → LeadTo runs start last → (¬ HoldsNone start) → (file first second : Bytes)
-    → StandIn (λ h. IsServedAt h file first) start → (one : Run) → Contains runs one → ClientGot one file second
-    → ∥ Agree first second ∥₁
-before_and_later [] start last leads some file first second stand one (k, less, is) got = absurd (omega (arith, less))
-before_and_later (run ∷ runs) start last leads some file first second stand one has got = elim (first_or_later run runs one has) [
-  | inl is ↦ before_and_now run start leads.0 leads.1 file first second stand (subst (λ run. ClientGot run file second) (sym is) got)
-  | inr later ↦ before_and_later runs leads.0 last leads.2 (there_by_run run start leads.0 leads.1 some) file first second
-      (still_served run start leads.0 leads.1 some file first stand) one later got
-]
+  -- a client of one of some runs, and what was served before them
+  before_and_later : (runs : List Run) (start last : X) → LeadTo k runs start last → (¬ k.HoldsNone start) → (file first second : Bytes)
+      → StandIn k again (λ h. IsServedAt h file first) start → (one : Run) → Contains runs one → ClientGot one file second
+      → ∥ Agree first second ∥₁
+  before_and_later [] start last leads some file first second stand one (k, less, is) got = absurd (omega (arith, less))
+  before_and_later (run ∷ runs) start last leads some file first second stand one has got = elim (first_or_later run runs one has) [
+    | inl is ↦ before_and_now run start leads.0 leads.1 file first second stand (subst (λ run. ClientGot run file second) (sym is) got)
+    | inr later ↦ before_and_later runs leads.0 last leads.2 (there_by_run k again run start leads.0 leads.1 some) file first second
+        (still_served run start leads.0 leads.1 some file first stand) one later got
+  ]
 
-swapped : (first second : Bytes) → ∥ Agree first second ∥₁ → ∥ Agree second first ∥₁
-swapped first second agree = ∥∥₁_map agree (λ it. (sym it.0, sym it.1))
+  swapped : (first second : Bytes) → ∥ Agree first second ∥₁ → ∥ Agree second first ∥₁
+  swapped first second agree = ∥∥₁_map agree (λ it. (sym it.0, sym it.1))
 
--- a client of a run, and one of a later run
-now_and_later : (run : Run) (runs : List Run) (start last : Image) (leads : LeadTo (run ∷ runs) start last) (Was : History → Type 0)
-    → StandIn Was start → (file first second : Bytes) → ClientGot run file first → (one : Run) → Contains runs one
-    → ClientGot one file second
-    → ∥ Agree first second ∥₁
-now_and_later run runs start last leads Was stand file first second got one has got' =
-    let now = now_served run start leads.0 leads.1 Was stand file first got in
-    before_and_later runs leads.0 last leads.2 now.0 file first second now.1 one has got'
+  -- a client of a run, and one of a later run
+  now_and_later : (run : Run) (runs : List Run) (start last : X) (leads : LeadTo k (run ∷ runs) start last) (Was : History → Type 0)
+      → StandIn k again Was start → (file first second : Bytes) → ClientGot run file first → (one : Run) → Contains runs one
+      → ClientGot one file second
+      → ∥ Agree first second ∥₁
+  now_and_later run runs start last leads Was stand file first second got one has got' =
+      let now = now_served run start leads.0 leads.1 Was stand file first got in
+      before_and_later runs leads.0 last leads.2 now.0 file first second now.1 one has got'
 
-abbrev Any : History → Type 0
-Any h = Unit {0}
+  abbrev Any : History → Type 0
+  Any h = Unit {0}
 
-two_agree : (runs : List Run) (start last : Image) → LeadTo runs start last → StandIn Any start → (one other : Run) → Contains runs one
-    → Contains runs other → (file first second : Bytes) → ClientGot one file first → ClientGot other file second
-    → ∥ Agree first second ∥₁
-two_agree [] start last leads stand one other (k, less, is) has' file first second got got' = absurd (omega (arith, less))
-two_agree (run ∷ runs) start last leads stand one other has has' file first second got got' =
-    elim (first_or_later run runs one has) as (λ _. ∥ Agree first second ∥₁) [
-      | inl is ↦
-          let here = subst (λ run. ClientGot run file first) (sym is) got in
-          elim (first_or_later run runs other has') as (λ _. ∥ Agree first second ∥₁) [
-            | inl is' ↦ both_now run start leads.0 leads.1 Any stand file first second here
-                (subst (λ run. ClientGot run file second) (sym is') got')
-            | inr later' ↦ now_and_later run runs start last leads Any stand file first second here other later' got'
-          ]
-      | inr later ↦ elim (first_or_later run runs other has') as (λ _. ∥ Agree first second ∥₁) [
-        | inl is' ↦ swapped second first (now_and_later run runs start last leads Any stand file second first
-            (subst (λ run. ClientGot run file second) (sym is') got') one later got)
-        | inr later' ↦ two_agree runs leads.0 last leads.2
-            (λ T holds. ∥∥₁_map (stand_by_run Any run start leads.0 stand leads.1 T holds) (λ then. (then.0, tt))) one other later later'
-            file first second got got'
+  two_agree : (runs : List Run) (start last : X) → LeadTo k runs start last → StandIn k again Any start
+      → (one other : Run) → Contains runs one
+      → Contains runs other → (file first second : Bytes) → ClientGot one file first → ClientGot other file second
+      → ∥ Agree first second ∥₁
+  two_agree [] start last leads stand one other (k, less, is) has' file first second got got' = absurd (omega (arith, less))
+  two_agree (run ∷ runs) start last leads stand one other has has' file first second got got' =
+      elim (first_or_later run runs one has) as (λ _. ∥ Agree first second ∥₁) [
+        | inl is ↦
+            let here = subst (λ run. ClientGot run file first) (sym is) got in
+            elim (first_or_later run runs other has') as (λ _. ∥ Agree first second ∥₁) [
+              | inl is' ↦ both_now run start leads.0 leads.1 Any stand file first second here
+                  (subst (λ run. ClientGot run file second) (sym is') got')
+              | inr later' ↦ now_and_later run runs start last leads Any stand file first second here other later' got'
+            ]
+        | inr later ↦ elim (first_or_later run runs other has') as (λ _. ∥ Agree first second ∥₁) [
+          | inl is' ↦ swapped second first (now_and_later run runs start last leads Any stand file second first
+              (subst (λ run. ClientGot run file second) (sym is') got') one later got)
+          | inr later' ↦ two_agree runs leads.0 last leads.2
+              (λ T holds. ∥∥₁_map (stand_by_run k again Any run start leads.0 stand leads.1 T holds) (λ then. (then.0, tt)))
+              one other later later'
+              file first second got got'
+        ]
       ]
-    ]
 
-pub agree_through : (runs : List Run) (first last : Image) → AgreeThrough runs first last
-agree_through runs first last none leads one other has has' file bytes bytes' got got' =
-    let agree = two_agree runs first last leads (λ T held. absurd (none (T, held))) one other has has' file bytes bytes' got got' in (
-      ∥∥₁_elim agree (Coded-set (coded_list coded_ℕ) _ _) (λ it. it.0),
-      ∥∥₁_elim agree (Coded-set coded_ℕ _ _) (λ it. it.1),
-    )
+  pub agree_through : (runs : List Run) (first last : X) → AgreeThrough k runs first last
+  agree_through runs first last none leads one other has has' file bytes bytes' got got' =
+      let agree = two_agree runs first last leads (λ T held. absurd (none (T, held))) one other has has' file bytes bytes' got got' in (
+        ∥∥₁_elim agree (Coded-set (coded_list coded_ℕ) _ _) (λ it. it.0),
+        ∥∥₁_elim agree (Coded-set coded_ℕ _ _) (λ it. it.1),
+      )

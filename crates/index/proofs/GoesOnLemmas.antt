@@ -1,7 +1,6 @@
 -- The history after any runs goes on from the one before them.
 use Rattle.std.proofs.Common.{◌≡◌, ℕ, List, [], ◌∷◌, Option, Some, None, Result, length, sym, subst, inl, inr}
 use Rattle.std.proofs.lemmas.Bool.{cases_lt}
-use Rattle.sqlite.specs.Recovery.{Image}
 use Rattle.index_cli.specs.Lines.{longest_line}
 use Rattle.index_cli.specs.Telling.{TextAnswersLines, TextAnswersParsedLine}
 use Rattle.index_cli.specs.LineCalls.{LineCallsLeave}
@@ -24,11 +23,10 @@ use Rattle.index.specs.Chains.{Run, CreatedRun, InitRun, EndedRun, CutRun, Unuse
 use Rattle.index.specs.GoesOn.{GoesOn, StandOn}
 use Rattle.index.proofs.ChainLemmas.{stand_by_runs}
 use Rattle.std.proofs.Math.Logic.{∥∥₁_map}
-use Rattle.index.specs.Runs.{HoldsNone}
+use Rattle.index.specs.Keeping.{FindsAgain, Keeping}
 use Rattle.index.specs.Tasks.{AreAmong, Task, AnswerLines, AnswerConnections, WriteReport, CountWrong}
 use Rattle.index_cli.proofs.FilesServed.{after_call, after_call_is, answered_each, as_is, itself, longer}
 use Rattle.index.proofs.ServedLemmas.{served_bound}
-use Rattle.index.proofs.ThereLemmas.{current_is_there}
 
 -- ---- what is told of lines
 
@@ -91,56 +89,59 @@ may_carry_on CountWrong result h h' T' it = as_is h h' it
 abbrev From : (History → Type 0) → History → Type 0
 From Was h' = (h : History) × Was h × IsFrontOf h h'
 
-pub by_run : (run : Run) (start next : Image) (it : LeadsOn run start next) → (¬ HoldsNone start) → (Was : History → Type 0) (h' : History)
-    → ComesByRun run start next it Was h' → From Was h'
-by_run (CreatedRun user token) start next it some Was h' new = absurd (some it.0)
-by_run (InitRun user token) start next it some Was h' (inl was) = (h', was, itself h')
-by_run (InitRun user token) start next it some Was h' (inr new) = absurd (some new.0)
-by_run (EndedRun task result) start next it some Was h' comes = (comes.0, comes.1, carried_on task result comes.0 h' it.after comes.4)
-by_run (CutRun task result) start next it some Was h' comes = (comes.0, comes.1, may_carry_on task result comes.0 h' comes.4.0 comes.4.2)
-by_run UnusedRun start next it some Was h' comes = (h', comes, itself h')
+module _ {X : Type 0} (k : Keeping X) (again : FindsAgain k) where
+  pub by_run : (run : Run) (start next : X) (it : LeadsOn k run start next) → (¬ k.HoldsNone start)
+      → (Was : History → Type 0) (h' : History)
+      → ComesByRun k run start next it Was h' → From Was h'
+  by_run (CreatedRun user token) start next it some Was h' new = absurd (some it.0)
+  by_run (InitRun user token) start next it some Was h' (inl was) = (h', was, itself h')
+  by_run (InitRun user token) start next it some Was h' (inr new) = absurd (some new.0)
+  by_run (EndedRun task result) start next it some Was h' comes = (comes.0, comes.1, carried_on task result comes.0 h' it.after comes.4)
+  by_run (CutRun task result) start next it some Was h' comes = (comes.0, comes.1, may_carry_on task result comes.0 h' comes.4.0 comes.4.2)
+  by_run UnusedRun start next it some Was h' comes = (h', comes, itself h')
 
-pub there_by_run : (run : Run) (start next : Image) → LeadsOn run start next → KeepsSome start next
-there_by_run (CreatedRun user token) start next it = λ some. current_is_there next (first_tables user token) it.1
-there_by_run (InitRun user token) start next it = it.0
-there_by_run (EndedRun task result) start next it = λ some. current_is_there next it.after it.left
-there_by_run (CutRun task result) start next it = λ some. it.there
-there_by_run UnusedRun start next it = it.0
+  pub there_by_run : (run : Run) (start next : X) → LeadsOn k run start next → KeepsSome k start next
+  there_by_run (CreatedRun user token) start next it = λ some. again.there next (first_tables user token) it.1
+  there_by_run (InitRun user token) start next it = it.0
+  there_by_run (EndedRun task result) start next it = λ some. again.there next it.after it.left
+  there_by_run (CutRun task result) start next it = λ some. it.there
+  there_by_run UnusedRun start next it = it.0
 
-by_runs : (runs : List Run) (start last : Image) (leads : LeadTo runs start last) → (¬ HoldsNone start)
-    → (Was : History → Type 0) (h' : History)
-    → ComesByRuns runs start last leads Was h' → From Was h'
-by_runs [] start last leads some Was h' comes = (h', comes, itself h')
-by_runs (run ∷ runs) start last leads some Was h' comes =
-    let later = by_runs runs leads.0 last leads.2 (there_by_run run start leads.0 leads.1 some)
-    (λ h. IsLegal h × ComesByRun run start leads.0 leads.1 Was h) h' comes in
-    let first = by_run run start leads.0 leads.1 some Was later.0 later.1.1 in
-    (first.0, first.1, longer first.0 later.0 h' first.2 later.2)
+  by_runs : (runs : List Run) (start last : X) (leads : LeadTo k runs start last) → (¬ k.HoldsNone start)
+      → (Was : History → Type 0) (h' : History)
+      → ComesByRuns k runs start last leads Was h' → From Was h'
+  by_runs [] start last leads some Was h' comes = (h', comes, itself h')
+  by_runs (run ∷ runs) start last leads some Was h' comes =
+      let later = by_runs runs leads.0 last leads.2 (there_by_run run start leads.0 leads.1 some)
+      (λ h. IsLegal h × ComesByRun k run start leads.0 leads.1 Was h) h' comes in
+      let first = by_run run start leads.0 leads.1 some Was later.0 later.1.1 in
+      (first.0, first.1, longer first.0 later.0 h' first.2 later.2)
 
-there_by_runs : (runs : List Run) (start last : Image) → LeadTo runs start last → KeepsSome start last
-there_by_runs [] start last leads = λ some none. some (subst HoldsNone leads none)
-there_by_runs (run ∷ runs) start last leads = λ some. there_by_runs runs leads.0 last leads.2 (there_by_run run start leads.0 leads.1 some)
+  there_by_runs : (runs : List Run) (start last : X) → LeadTo k runs start last → KeepsSome k start last
+  there_by_runs [] start last leads = λ some none. some (subst k.HoldsNone leads none)
+  there_by_runs (run ∷ runs) start last leads =
+      λ some. there_by_runs runs leads.0 last leads.2 (there_by_run run start leads.0 leads.1 some)
 
-pub goes_on : (runs : List Run) (first last : Image) → GoesOn runs first last
-goes_on runs first last some leads = (
-  there_by_runs runs first last leads some,
-  λ given later legal comes.
-      let from = by_runs runs first last leads some (λ h. h ≡ given) later comes in
-      let front = subst (λ h. IsFrontOf h later) from.1 from.2 in
-      (front, served_bound later legal given front),
-)
+  pub goes_on : (runs : List Run) (first last : X) → GoesOn k runs first last
+  goes_on runs first last some leads = (
+    there_by_runs runs first last leads some,
+    λ given later legal comes.
+        let from = by_runs runs first last leads some (λ h. h ≡ given) later comes in
+        let front = subst (λ h. IsFrontOf h later) from.1 from.2 in
+        (front, served_bound later legal given front),
+  )
 
-pub stand_on : (runs others : List Run) (first mid last : Image) → StandOn runs others first mid last
-stand_on runs others first mid last none leads some leads' T holds =
-    ∥∥₁_map (stand_by_runs (λ h. ComesByRuns runs first mid leads (λ h. ⊥) h) others mid last
-    (stand_by_runs (λ h. ⊥) runs first mid (λ T held. absurd (none (T, held))) leads) leads' T holds) (λ it.
-    let from = by_runs others mid last leads' some (λ h. ComesByRuns runs first mid leads (λ h. ⊥) h) it.0.0 it.1 in
-    record {
-      earlier = from.0;
-      comes = from.1;
-      later = it.0.0;
-      legal = it.0.1;
-      stands = it.0.2;
-      goes_on = from.2;
-      served = served_bound it.0.0 it.0.1 from.0 from.2;
-    })
+  pub stand_on : (runs others : List Run) (first mid last : X) → StandOn k runs others first mid last
+  stand_on runs others first mid last none leads some leads' T holds =
+      ∥∥₁_map (stand_by_runs k again (λ h. ComesByRuns k runs first mid leads (λ h. ⊥) h) others mid last
+      (stand_by_runs k again (λ h. ⊥) runs first mid (λ T held. absurd (none (T, held))) leads) leads' T holds) (λ it.
+      let from = by_runs others mid last leads' some (λ h. ComesByRuns k runs first mid leads (λ h. ⊥) h) it.0.0 it.1 in
+      record {
+        earlier = from.0;
+        comes = from.1;
+        later = it.0.0;
+        legal = it.0.1;
+        stands = it.0.2;
+        goes_on = from.2;
+        served = served_bound it.0.0 it.0.1 from.0 from.2;
+      })

@@ -6,11 +6,15 @@ pub mod FreshLemmas
 pub mod GoesOnLemmas
 pub mod JobLemmas
 pub mod OfficeLemmas
+pub mod OneFileLemmas
 pub mod OpeningLemmas
+pub mod PairLemmas
 pub mod RoundLemmas
 pub mod RunLemmas
 pub mod ServedLemmas
 pub mod ThereLemmas
+pub mod VolumeLemmas
+pub mod VolumeRuns
 pub mod WrongLemmas
 pub mod WrongLines
 pub mod WrongCalls

@@ -7,7 +7,7 @@ use Rattle.index_rules.specs.Maps.{Bytes}
 use Rattle.index_rules.specs.Tables.{Tables}
 use Rattle.index.specs.declared.end.End.{End}
 use Rattle.index.specs.Chains.{CreatedRun, CutRun, LeadsOn}
-use Rattle.index.specs.Runs.{Holds, HoldsNone}
+use Rattle.index.specs.Runs.{Holds, HoldsNone, in_files}
 use Rattle.index.specs.Tasks.{AreAmong, Task}
 use Rattle.index.proofs.ThereLemmas.{current_is_there, not_found}
 
@@ -17,14 +17,16 @@ index_is_not_none image T holds none same = not_found none holds.db T same holds
 
 -- a run that was cut short leaves no files with nothing of an index
 pub cut_run_leaves_an_index : (task : Task) (result : Result ℕ End) (start next : Image) → HoldsNone next
-    → ¬ LeadsOn (CutRun task result) start next
+    → ¬ LeadsOn in_files (CutRun task result) start next
 cut_run_leaves_an_index task result start next none leads = leads.there none
 
 -- nor does an init that ended well, which made an index if there was none
-pub created_run_leaves_an_index : (user token : Bytes) (start next : Image) → HoldsNone next → ¬ LeadsOn (CreatedRun user token) start next
+pub created_run_leaves_an_index : (user token : Bytes) (start next : Image) → HoldsNone next
+    → ¬ LeadsOn in_files (CreatedRun user token) start next
 created_run_leaves_an_index user token start next none leads = current_is_there next (first_tables user token) leads.1 none
 
-pub created_run_found_none : (user token : Bytes) (start next : Image) → (¬ HoldsNone start) → ¬ LeadsOn (CreatedRun user token) start next
+pub created_run_found_none : (user token : Bytes) (start next : Image) → (¬ HoldsNone start)
+    → ¬ LeadsOn in_files (CreatedRun user token) start next
 created_run_found_none user token start next some leads = some leads.0
 
 -- a list with one input fewer for each connection that came

@@ -43,8 +43,9 @@ use Rattle.sqlite.specs.WalReads.{AreClean}
 use Rattle.index.specs.declared.database.Unclosed.{Unclosed}
 use Rattle.index.proofs.ThereLemmas.{not_same, there_by}
 use Rattle.index.specs.Openings.{HoldsOnly, IsCleanClosed, OpensAgain, Refused, ShutLeaves}
-use Rattle.index.specs.Runs.{Began, CrashLeavesDatabase, CrashLeavesOnlyTables, Created, CreatedInLog, FindsOnly, Holds, HoldsAfterCrash}
-use Rattle.index.specs.Runs.{HoldsCurrent, HoldsNone, Interrupted, IsMadeNew, Ran, Worked}
+use Rattle.index.specs.Keeping.{FindsOnly}
+use Rattle.index.specs.Runs.{Began, CrashLeavesDatabase, CrashLeavesOnlyTables, Created, CreatedInLog, Holds, HoldsAfterCrash}
+use Rattle.index.specs.Runs.{HoldsCurrent, HoldsNone, Interrupted, IsMadeNew, Ran, Worked, in_files}
 
 -- an index of today is found as it is, and never as one of version 1
 same_found : (db other : Database) (T found : Tables) → IsCurrent 2 db T → IsFound other found → other.trees ≡ db.trees → found ≡ T
@@ -102,7 +103,7 @@ module _ {D : Type 0} {g : Ghosts D} where
       keeps_of image db T committed.current (subst (λ (d : Database). HoldsAlone image d.trees) same alone) in
       record { seen = held _ copied.seen; crash = λ image may. held image (copied.left image may) }
 
-  only_of : (start : Image) (first : Held (FileStore D g)) → IsOpened first → FindsIn start (file_state first)
+  pub only_of : (start : Image) (first : Held (FileStore D g)) → IsOpened first → FindsIn start (file_state first)
       → HoldsOnly start (file_state first).now
   only_of start first opened finds = record {
     read = subst (λ (d : Database). AreFoundIn start d.trees) (sym opened.0.clean) finds.reads;
@@ -134,7 +135,7 @@ module _ {D : Type 0} {g : Ghosts D} where
 
   found_next : (Are : Tables → Type 0) (last : Held (FileStore D g)) → OpensAgain last.store
       → CrashLeavesOnlyTables (file_state last).may_leave Are
-      → (image : Image) → MayLeave last image → FindsOnly image Are
+      → (image : Image) → MayLeave last image → FindsOnly in_files image Are
   found_next Are last again left image may found holds =
       ∥∥₁_map (found_among last.store again image may found holds)
       (λ allowed. left holds.db.trees allowed found (tables_of_found holds.db found holds.found))

@@ -43,7 +43,7 @@ use Rattle.index_rules.proofs.KeyLemmas.{cases_same, get-put, get-without, same-
 use Rattle.index_rules.proofs.PastReading.{read_itself}
 use Rattle.index_sql_opening.specs.Names.{has_any_of, has_table}
 use Rattle.index_sql_schema.specs.Schema.{index_schema}
-use Rattle.index_tables.specs.Adopted.{IsFound}
+use Rattle.index_tables.specs.Adopted.{IsCurrent, IsFound}
 use Rattle.index_tables.specs.BooksState.{AreCurrent}
 use Rattle.index.specs.declared.end.End.{End}
 use Rattle.index.specs.Openings.{OpensAgain}
@@ -97,11 +97,15 @@ not_these none db same current =
     false≢true (sym none.free ∙ has_of_two none.db.schema index_schema db refl refl
     (subst (λ trees. IsSound none.db.schema trees) same none.sound) current.index.sound)
 
-pub not_found : {image : Image} (none : HoldsNone image) (db : Database) (T : Tables) → none.db.trees ≡ db.trees → IsFound db T → ⊥
-not_found none db T same (inl it) =
+pub not_current : {image : Image} (number : ℕ) (none : HoldsNone image) (db : Database) (T : Tables) → none.db.trees ≡ db.trees
+    → IsCurrent number db T → ⊥
+not_current number none db T same it =
     false≢true (sym none.free ∙ has_of_two none.db.schema index_schema db.trees refl refl
     (subst (λ trees. IsSound none.db.schema trees) same none.sound)
     (subst (λ schema. IsSound schema db.trees) it.index.schema it.index.sound))
+
+pub not_found : {image : Image} (none : HoldsNone image) (db : Database) (T : Tables) → none.db.trees ≡ db.trees → IsFound db T → ⊥
+not_found none db T same (inl it) = not_current 2 none db T same it
 not_found none db T same (inr it) =
     false≢true (sym none.free ∙ has_of_two none.db.schema _ db.trees refl refl
     (subst (λ trees. IsSound none.db.schema trees) same none.sound)

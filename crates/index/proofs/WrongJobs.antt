@@ -74,14 +74,14 @@ module _ {D K : Type 0} (g : Ghosts D) (start : Image) (sink : SinkStep K) (stat
 
   pub none_well : (asked : Job) → AreAllClean g → HoldsNoIndex start → works_on_index asked ≡ true
       → ¬ JobEnds g asked start sink (Ok status)
-  none_well (job.Init db user digits page_sums) clean none works ends = no_truth (sym works)
+  none_well (job.Init paths user digits page_sums) clean none works ends = no_truth (sym works)
   none_well (job.Apply None) clean none works ends = no_truth (sym works)
-  none_well (job.Apply (Some path)) clean none works (inl memory) = no_error status end.OutOfMemory memory
-  none_well (job.Apply (Some path)) clean none works (inr (given, (left, found, comes, is))) = no_run_well _ found clean none comes is
-  none_well (job.Serve db args) clean none works (inl memory) = no_error status end.OutOfMemory memory
-  none_well (job.Serve db args) clean none works (inr (found, comes, is)) = no_run_well _ found clean none comes is
-  none_well (job.Report db) clean none works (found, comes, is) = no_run_well _ found clean none comes is
-  none_well (job.Check db) clean none works (found, comes, is) = no_check_well found clean none comes is
+  none_well (job.Apply (Some paths)) clean none works (inl memory) = no_error status end.OutOfMemory memory
+  none_well (job.Apply (Some paths)) clean none works (inr (given, (left, found, comes, is))) = no_run_well _ found clean none comes is
+  none_well (job.Serve paths args) clean none works (inl memory) = no_error status end.OutOfMemory memory
+  none_well (job.Serve paths args) clean none works (inr (found, comes, is)) = no_run_well _ found clean none comes is
+  none_well (job.Report paths) clean none works (found, comes, is) = no_run_well _ found clean none comes is
+  none_well (job.Check paths) clean none works (found, comes, is) = no_check_well found clean none comes is
 
   -- if a part of an index is there, no init ends well
   no_init_well : (user digits : Bytes) (page_sums : Bool) (made : Result (Unit {0}) End) → AreAllClean g → (¬ HoldsNone start)
@@ -90,12 +90,12 @@ module _ {D K : Type 0} (g : Ghosts D) (start : Image) (sink : SinkStep K) (stat
   no_init_well user digits page_sums (Err told) clean some comes is = no_error status told is.0
 
   pub anew_well : (asked : Job) → AreAllClean g → (¬ HoldsNone start) → makes_index asked ≡ true → ¬ JobEnds g asked start sink (Ok status)
-  anew_well (job.Init db user digits page_sums) clean some makes (made, comes, is) =
+  anew_well (job.Init paths user digits page_sums) clean some makes (made, comes, is) =
       no_init_well user.now digits.now page_sums made clean some comes is
-  anew_well (job.Apply db) clean some makes ends = no_truth (sym makes)
-  anew_well (job.Serve db args) clean some makes ends = no_truth (sym makes)
-  anew_well (job.Report db) clean some makes ends = no_truth (sym makes)
-  anew_well (job.Check db) clean some makes ends = no_truth (sym makes)
+  anew_well (job.Apply paths) clean some makes ends = no_truth (sym makes)
+  anew_well (job.Serve paths args) clean some makes ends = no_truth (sym makes)
+  anew_well (job.Report paths) clean some makes ends = no_truth (sym makes)
+  anew_well (job.Check paths) clean some makes ends = no_truth (sym makes)
 
   -- nor with a first user who is not valid
   no_user_run : (user digits : Bytes) (page_sums : Bool) → IsBadFirstUserByHex user digits
@@ -111,11 +111,11 @@ module _ {D K : Type 0} (g : Ghosts D) (start : Image) (sink : SinkStep K) (stat
   no_user_well user digits page_sums (Err told) bad comes is = no_error status told is.0
 
   user_well : (asked : Job) → NamesFirstUser IsBadFirstUserByHex asked → ¬ JobEnds g asked start sink (Ok status)
-  user_well (job.Init db user digits page_sums) bad (made, comes, is) = no_user_well user.now digits.now page_sums made bad comes is
-  user_well (job.Apply db) bad ends = absurd bad
-  user_well (job.Serve db args) bad ends = absurd bad
-  user_well (job.Report db) bad ends = absurd bad
-  user_well (job.Check db) bad ends = absurd bad
+  user_well (job.Init paths user digits page_sums) bad (made, comes, is) = no_user_well user.now digits.now page_sums made bad comes is
+  user_well (job.Apply paths) bad ends = absurd bad
+  user_well (job.Serve paths args) bad ends = absurd bad
+  user_well (job.Report paths) bad ends = absurd bad
+  user_well (job.Check paths) bad ends = absurd bad
 
   -- the status of what ended well
   run_status : (found : Result ℕ End) → (¬ (exit_status status ≡ 0)) → ¬ IsStatusOf found (Ok status)
@@ -127,13 +127,13 @@ module _ {D K : Type 0} (g : Ghosts D) (start : Image) (sink : SinkStep K) (stat
   init_status (Err told) other is = no_error status told is.0
 
   other_well : (asked : Job) → counts_charges asked ≡ false → (¬ (exit_status status ≡ 0)) → ¬ JobEnds g asked start sink (Ok status)
-  other_well (job.Init db user digits page_sums) counts other (made, comes, is) = init_status made other is
-  other_well (job.Apply db) counts other (inl memory) = no_error status end.OutOfMemory memory
-  other_well (job.Apply db) counts other (inr (given, (left, found, comes, is))) = run_status found other is
-  other_well (job.Serve db args) counts other (inl memory) = no_error status end.OutOfMemory memory
-  other_well (job.Serve db args) counts other (inr (found, comes, is)) = run_status found other is
-  other_well (job.Report db) counts other (found, comes, is) = run_status found other is
-  other_well (job.Check db) counts other ends = no_truth counts
+  other_well (job.Init paths user digits page_sums) counts other (made, comes, is) = init_status made other is
+  other_well (job.Apply paths) counts other (inl memory) = no_error status end.OutOfMemory memory
+  other_well (job.Apply paths) counts other (inr (given, (left, found, comes, is))) = run_status found other is
+  other_well (job.Serve paths args) counts other (inl memory) = no_error status end.OutOfMemory memory
+  other_well (job.Serve paths args) counts other (inr (found, comes, is)) = run_status found other is
+  other_well (job.Report paths) counts other (found, comes, is) = run_status found other is
+  other_well (job.Check paths) counts other ends = no_truth counts
 
   -- a check counted the wrong charges of an index in the files
   abbrev Counted : ℕ → Type 0
@@ -166,11 +166,11 @@ module _ {D K : Type 0} (g : Ghosts D) (start : Image) (sink : SinkStep K) (stat
 
   counted_well : (asked : Job) → AreAllClean g → counts_charges asked ≡ true → JobEnds g asked start sink (Ok status)
       → (T : Tables) × Holds start T × TellsWrong T
-  counted_well (job.Init db user digits page_sums) clean counts ends = absurd (no_truth (sym counts))
-  counted_well (job.Apply db) clean counts ends = absurd (no_truth (sym counts))
-  counted_well (job.Serve db args) clean counts ends = absurd (no_truth (sym counts))
-  counted_well (job.Report db) clean counts ends = absurd (no_truth (sym counts))
-  counted_well (job.Check db) clean counts (found, comes, is) = counted found clean comes is
+  counted_well (job.Init paths user digits page_sums) clean counts ends = absurd (no_truth (sym counts))
+  counted_well (job.Apply paths) clean counts ends = absurd (no_truth (sym counts))
+  counted_well (job.Serve paths args) clean counts ends = absurd (no_truth (sym counts))
+  counted_well (job.Report paths) clean counts ends = absurd (no_truth (sym counts))
+  counted_well (job.Check paths) clean counts (found, comes, is) = counted found clean comes is
 
   wrong_well : (asked : Job) → AreAllClean g → counts_charges asked ≡ true → ((T : Tables) → Holds start T → ¬ (wrong_charges_in T ≡ 0))
       → exit_status status ≡ 0
@@ -221,11 +221,11 @@ module _ {D K : Type 0} (g : Ghosts D) (start : Image) (sink : SinkStep K) (stat
 
   report_well : (asked : Job) → AreAllClean g → writes_report asked ≡ true → ((T : Tables) → Holds start T → ¬ Wrote sink (report_in T))
       → ¬ JobEnds g asked start sink (Ok status)
-  report_well (job.Init db user digits page_sums) clean writes wrong ends = no_truth (sym writes)
-  report_well (job.Apply db) clean writes wrong ends = no_truth (sym writes)
-  report_well (job.Serve db args) clean writes wrong ends = no_truth (sym writes)
-  report_well (job.Report db) clean writes wrong (found, comes, is) = let it = reported found clean comes is in wrong it.0 it.1 it.2
-  report_well (job.Check db) clean writes wrong ends = no_truth (sym writes)
+  report_well (job.Init paths user digits page_sums) clean writes wrong ends = no_truth (sym writes)
+  report_well (job.Apply paths) clean writes wrong ends = no_truth (sym writes)
+  report_well (job.Serve paths args) clean writes wrong ends = no_truth (sym writes)
+  report_well (job.Report paths) clean writes wrong (found, comes, is) = let it = reported found clean comes is in wrong it.0 it.1 it.2
+  report_well (job.Check paths) clean writes wrong ends = no_truth (sym writes)
 
   pub refutes_jobs : RefutesJobs g start sink status
   refutes_jobs = record {
@@ -339,7 +339,7 @@ refutes_told g = record { other = told_other; kind = told_kind; opened = told_op
 -- ---- causes
 
 other_open : (asked : Job) (told : Option Cause) (fault : OpenFault) → (¬ (fault ≡ open_fault.BadFirstUser))
-    → (¬ (told ≡ cause_of_open fault))
+    → (¬ (told ≡ cause_of_open asked fault))
     → ¬ JobPrintsCause asked (end.Open fault) told
 other_open asked told open_fault.BadFirstUser differs other is = differs refl
 other_open asked told open_fault.NotEmpty differs other is = other is
@@ -356,11 +356,13 @@ other_none asked told (end.Connections early) kind other is = other is
 other_none asked told (end.Listen why) kind other is = no_truth (sym kind)
 other_none asked told end.OutOfMemory kind other is = other is
 other_none asked told (end.Store found) kind other is = no_truth (sym kind)
+other_none asked told (end.Volume found path) kind other is = no_truth (sym kind)
 other_none asked told end.WriteFault kind other is = other is
 
 pub refutes_causes : (asked : Job) (told : Option Cause) → RefutesCauses asked told
 refutes_causes asked told = record {
   store = λ found other is. other is;
+  volume = λ found path other is. other is;
   address = λ why other is. other is;
   database = other_open asked told;
   none = other_none asked told;
@@ -393,21 +395,22 @@ module _ (Valid : Bytes → Bytes → Type 0) (said : Cause)
     (refuted : (user digits : Bytes) → Valid user digits → ¬ IsWhyBadFirstUser user digits said) where
   no_cause : (asked : Job) → NamesFirstUser (λ user digits. IsBadFirstUserByHex user digits × Valid user digits) asked
       → ¬ TellsBadUser asked (Some said)
-  no_cause (job.Init db user digits page_sums) bad is = refuted user.now digits.now bad.1 (true_cause user.now digits.now said (is bad.0))
-  no_cause (job.Apply db) bad is = absurd bad
-  no_cause (job.Serve db args) bad is = absurd bad
-  no_cause (job.Report db) bad is = absurd bad
-  no_cause (job.Check db) bad is = absurd bad
+  no_cause (job.Init paths user digits page_sums) bad is =
+      refuted user.now digits.now bad.1 (true_cause user.now digits.now said (is bad.0))
+  no_cause (job.Apply paths) bad is = absurd bad
+  no_cause (job.Serve paths args) bad is = absurd bad
+  no_cause (job.Report paths) bad is = absurd bad
+  no_cause (job.Check paths) bad is = absurd bad
 
 no_silence : (asked : Job) → NamesFirstUser IsBadFirstUserByHex asked → ¬ TellsBadUser asked None
-no_silence (job.Init db user digits page_sums) bad is =
+no_silence (job.Init paths user digits page_sums) bad is =
     let it = is bad in
     let none : false ≡ true = ap (λ (it : Option Cause). is_some it) it.1 in
     no_truth (sym none)
-no_silence (job.Apply db) bad is = absurd bad
-no_silence (job.Serve db args) bad is = absurd bad
-no_silence (job.Report db) bad is = absurd bad
-no_silence (job.Check db) bad is = absurd bad
+no_silence (job.Apply paths) bad is = absurd bad
+no_silence (job.Serve paths args) bad is = absurd bad
+no_silence (job.Report paths) bad is = absurd bad
+no_silence (job.Check paths) bad is = absurd bad
 
 pub refutes_users : (asked : Job) → RefutesUserCauses asked
 refutes_users asked = record {

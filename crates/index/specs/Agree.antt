@@ -1,7 +1,6 @@
 -- The clients of any runs are sent the same bytes for one file name.
 use Rattle.std.specs.Prelude.{Contains, List, None, Ok, Option, Result, Some, [], false, length, ℕ}
 use Rattle.std.specs.Prelude.{◌++◌, ◌∷◌, ◌≡◌}
-use Rattle.sqlite.specs.Recovery.{Image}
 use Rattle.index_digest.specs.Digest.{sha256}
 use Rattle.index_http.specs.Replies.{file_reply, reply_text}
 use Rattle.index_message.specs.Fields.{Field}
@@ -12,7 +11,7 @@ use Rattle.index_cli.specs.Connections.{Exchange, KnownList, KnownReplies, SentR
 use Rattle.index_cli.specs.FilesServed.{GotFile, IsAmong, get_of_file}
 use Rattle.index.specs.declared.end.End.{End}
 use Rattle.index.specs.Chains.{EndedRun, LeadTo, Run}
-use Rattle.index.specs.Refuted.{HoldsNoIndex}
+use Rattle.index.specs.Keeping.{FindsNone, Keeping}
 use Rattle.index.specs.Tasks.{AnswerConnections, AreAmong}
 
 -- A client of a run sent a `GET` of a file name, and was sent the reply with status 200 and these
@@ -42,8 +41,8 @@ ClientsAgree runs =
     → (sha256 first ≡ sha256 second) × (length first ≡ length second)
 
 -- so do the clients of any runs, one after the other, if the first files held no index
-abbrev pub AgreeThrough : List Run → Image → Image → Type 0
-AgreeThrough runs first last = HoldsNoIndex first → LeadTo runs first last → ClientsAgree runs
+abbrev pub AgreeThrough : {X : Type 0} → Keeping X → List Run → X → X → Type 0
+AgreeThrough k runs first last = FindsNone k first → LeadTo k runs first last → ClientsAgree runs
 
 -- ---- a wrong outcome
 

@@ -1,5 +1,5 @@
 -- Runs of the program, each on the files that the one before left, and the one history that they
--- carry on.
+-- carry on, however an index is kept.
 use Rattle.std.specs.Prelude.{◌≡◌, ◌⊎◌, ℕ, List, [], ◌∷◌, Result, IfOk, IfErr, IfSome}
 use Rattle.sqlite.specs.declared.FileStore.{FileStore}
 use Rattle.sqlite.specs.declared.file.Leftover.{Leftover}
@@ -39,8 +39,9 @@ use Rattle.index.specs.declared.database.Unclosed.{Unclosed}
 use Rattle.index.specs.declared.database.Unused.{Unused}
 use Rattle.index.specs.declared.end.End.{End}
 use Rattle.index.specs.Ends.{end_of}
+use Rattle.index.specs.Keeping.{FindsNone, FindsOnly, Keeping}
 use Rattle.index.specs.Openings.{OpensAgain}
-use Rattle.index.specs.Runs.{FindsOnly, Holds, HoldsCurrent, HoldsNone}
+use Rattle.index.specs.Runs.{in_files}
 use Rattle.index.specs.Tasks.{AnswerConnections, AnswerLines, AreAmong, CountWrong, Does, IsUpTo}
 use Rattle.index.specs.Tasks.{Task, TaskMayLeave, TaskTells, WriteReport}
 
@@ -60,47 +61,47 @@ pub data Run : Type 0 where
   UnusedRun : Run
 
 -- the task was done on the index in the files, and the files have its result
-pub record EndedRunLeadsOn
-    (task : Task) (result : Result ℕ End) (start next : Image) : Type 0 where
+pub record EndedRunLeadsOn {X : Type 0} (k : Keeping X)
+    (task : Task) (result : Result ℕ End) (start next : X) : Type 0 where
   pub before : Tables
   pub after : Tables
-  pub held : Holds start before
+  pub held : k.Holds start before
   pub did : Does task result before after
-  pub left : HoldsCurrent next after
+  pub left : k.HoldsCurrent next after
 
 -- The task was begun on the index in the files, and reported this. Any index in the next files is
 -- one that the task may leave.
-pub record CutRunLeadsOn
-    (task : Task) (result : Result ℕ End) (start next : Image) : Type 0 where
+pub record CutRunLeadsOn {X : Type 0} (k : Keeping X)
+    (task : Task) (result : Result ℕ End) (start next : X) : Type 0 where
   pub before : Tables
-  pub held : Holds start before
+  pub held : k.Holds start before
   pub told : TaskTells task result before
-  pub left : FindsOnly next (TaskMayLeave task result before)
-  pub there : ¬ HoldsNone next
+  pub left : FindsOnly k next (TaskMayLeave task result before)
+  pub there : ¬ k.HoldsNone next
 
 -- if the files held some part of an index, the next ones do
-abbrev pub KeepsSome : Image → Image → Type 0
-KeepsSome start next = (¬ HoldsNone start) → ¬ HoldsNone next
+abbrev pub KeepsSome : {X : Type 0} → Keeping X → X → X → Type 0
+KeepsSome k start next = (¬ k.HoldsNone start) → ¬ k.HoldsNone next
 
 -- A run leads from the files that it found to the next ones. A successful init made its index in
 -- files without one. After another run, any index in the next files was there before, or is the new
 -- one, made in files without one.
-abbrev pub LeadsOn : Run → Image → Image → Type 0
-LeadsOn (CreatedRun user token) start next =
-    HoldsNone start × HoldsCurrent next (first_tables user token)
-LeadsOn (InitRun user token) start next =
-    KeepsSome start next
-    × FindsOnly next (λ found.
-    Holds start found ⊎ (HoldsNone start × (found ≡ first_tables user token)))
-LeadsOn (EndedRun task result) start next = EndedRunLeadsOn task result start next
-LeadsOn (CutRun task result) start next = CutRunLeadsOn task result start next
-LeadsOn UnusedRun start next = KeepsSome start next × FindsOnly next (Holds start)
+abbrev pub LeadsOn : {X : Type 0} → Keeping X → Run → X → X → Type 0
+LeadsOn k (CreatedRun user token) start next =
+    k.HoldsNone start × k.HoldsCurrent next (first_tables user token)
+LeadsOn k (InitRun user token) start next =
+    KeepsSome k start next
+    × FindsOnly k next (λ found.
+    k.Holds start found ⊎ (k.HoldsNone start × (found ≡ first_tables user token)))
+LeadsOn k (EndedRun task result) start next = EndedRunLeadsOn k task result start next
+LeadsOn k (CutRun task result) start next = CutRunLeadsOn k task result start next
+LeadsOn k UnusedRun start next = KeepsSome k start next × FindsOnly k next (k.Holds start)
 
 -- runs lead one after the other from these files to the last ones
-abbrev pub LeadTo : List Run → Image → Image → Type 0
-LeadTo [] start last = last ≡ start
-LeadTo (run ∷ runs) start last =
-    (next : Image) × LeadsOn run start next × LeadTo runs next last
+abbrev pub LeadTo : {X : Type 0} → Keeping X → List Run → X → X → Type 0
+LeadTo k [] start last = last ≡ start
+LeadTo {X} k (run ∷ runs) start last =
+    (next : X) × LeadsOn k run start next × LeadTo k runs next last
 
 -- ---- the next files after each run, from what it returns
 
@@ -109,7 +110,7 @@ abbrev pub ClosedLeadsOn : {D : Type 0} → Ghosts D → Run → Image → Files
 ClosedLeadsOn g run start files =
     AreClean g files.log files.db → (next : Image)
     → (next ≡ image_of g files) ⊎ outcomes g files.log files.db next
-    → LeadsOn run start next
+    → LeadsOn in_files run start next
 
 module _ {D : Type 0} {g : Ghosts D} where
   -- The files could not be closed. The next ones hold what a crash leaves of them before that.
@@ -117,7 +118,7 @@ module _ {D : Type 0} {g : Ghosts D} where
   UnclosedLeadsOn run start store =
       IsClean (over_files.view store)
       → (last : Held (FileStore D g)) × IsClosed last store
-      × ((next : Image) → MayLeave last next → LeadsOn run start next)
+      × ((next : Image) → MayLeave last next → LeadsOn in_files run start next)
 
   -- A crash may leave this of two files that could not be opened as a database: of a refused store,
   -- if it can be opened again. If the log was repaired or a database was begun, `ShutLeaves` says
@@ -130,10 +131,11 @@ module _ {D : Type 0} {g : Ghosts D} where
   -- Nothing was done on the files. The next ones hold what a crash leaves of them.
   abbrev pub UnusedLeadsOn : Run → Image → Left D g → Type 0
   UnusedLeadsOn run start (unused.Shut left) =
-      IsCleanLeft left → (next : Image) → MayStay left next → LeadsOn run start next
+      IsCleanLeft left → (next : Image) → MayStay left next
+      → LeadsOn in_files run start next
   UnusedLeadsOn run start (unused.Refused left) =
       HasCleanDisk (file_state left.conn) → (next : Image)
-      → MayLeave left.conn next → LeadsOn run start next
+      → MayLeave left.conn next → LeadsOn in_files run start next
 
 -- the next files after a run of work, by its task
 pub record WorkLeadsOn {D : Type 0} (g : Ghosts D) (task : Task) (start : Image)
@@ -196,38 +198,38 @@ TaskTellsByHistory CountWrong result h T = Unit {0}
 
 -- A run made this history of one for which `Was` holds, or left that as it was. The tables before
 -- the run stand for the old one, and those after it for this one.
-abbrev pub ComesByRun : (run : Run) (start next : Image) → LeadsOn run start next
-    → (History → Type 0) → History → Type 0
-ComesByRun (CreatedRun user token) start next it Was h' = h' ≡ begins user token
-ComesByRun (InitRun user token) start next it Was h' =
-    Was h' ⊎ (HoldsNone start × (h' ≡ begins user token))
-ComesByRun (EndedRun task result) start next it Was h' =
+abbrev pub ComesByRun : {X : Type 0} (k : Keeping X) (run : Run) (start next : X)
+    → LeadsOn k run start next → (History → Type 0) → History → Type 0
+ComesByRun k (CreatedRun user token) start next it Was h' = h' ≡ begins user token
+ComesByRun k (InitRun user token) start next it Was h' =
+    Was h' ⊎ (k.HoldsNone start × (h' ≡ begins user token))
+ComesByRun k (EndedRun task result) start next it Was h' =
     (h : History) × Was h × StandsFor it.before h
     × StandsFor it.after h' × Carries task result h h' it.after
-ComesByRun (CutRun task result) start next it Was h' =
+ComesByRun k (CutRun task result) start next it Was h' =
     (h : History) × Was h × StandsFor it.before h × TaskTellsByHistory task result h it.before
     × ((left : Tables) × StandsFor left h' × MayCarry task result h h' left)
-ComesByRun UnusedRun start next it Was h' = Was h'
+ComesByRun k UnusedRun start next it Was h' = Was h'
 
 -- runs made this history one after the other, as in `ComesByRun`, and each history is legal
-abbrev pub ComesByRuns : (runs : List Run) (start last : Image) → LeadTo runs start last
-    → (History → Type 0) → History → Type 0
-ComesByRuns [] start last leads Was h' = Was h'
-ComesByRuns (run ∷ runs) start last leads Was h' =
-    ComesByRuns runs leads.0 last leads.2
-    (λ h. IsLegal h × ComesByRun run start leads.0 leads.1 Was h) h'
+abbrev pub ComesByRuns : {X : Type 0} (k : Keeping X) (runs : List Run) (start last : X)
+    → LeadTo k runs start last → (History → Type 0) → History → Type 0
+ComesByRuns k [] start last leads Was h' = Was h'
+ComesByRuns k (run ∷ runs) start last leads Was h' =
+    ComesByRuns k runs leads.0 last leads.2
+    (λ h. IsLegal h × ComesByRun k run start leads.0 leads.1 Was h) h'
 
 -- the tables stand for a legal history that these runs made, without a history before them
-pub record StandByRuns (runs : List Run) (first last : Image)
-    (leads : LeadTo runs first last) (T : Tables) : Type 0 where
+pub record StandByRuns {X : Type 0} (k : Keeping X) (runs : List Run) (first last : X)
+    (leads : LeadTo k runs first last) (T : Tables) : Type 0 where
   pub history : History
   pub legal : IsLegal history
   pub stands : StandsFor T history
-  pub comes : ComesByRuns runs first last leads (λ h. ⊥) history
+  pub comes : ComesByRuns k runs first last leads (λ h. ⊥) history
 
 -- the law of runs: if the first files hold no index, then after any runs the tables in the last
 -- files stand for one history that the runs made
-abbrev pub StandThrough : List Run → Image → Image → Type 0
-StandThrough runs first last =
-    (¬ ((T : Tables) × Holds first T)) → (leads : LeadTo runs first last)
-    → FindsOnly last (StandByRuns runs first last leads)
+abbrev pub StandThrough : {X : Type 0} → Keeping X → List Run → X → X → Type 0
+StandThrough k runs first last =
+    FindsNone k first → (leads : LeadTo k runs first last)
+    → FindsOnly k last (StandByRuns k runs first last leads)

@@ -26,6 +26,7 @@ use Rattle.index.specs.Causes.{cause_of_error}
 -- the database failed
 abbrev pub is_store : End → Bool
 is_store (end.Store cause) = true
+is_store (end.Volume cause path) = true
 is_store (end.Open open_fault.Store) = true
 is_store (end.Connections serve_end.Store) = true
 is_store _ = false

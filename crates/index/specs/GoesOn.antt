@@ -1,6 +1,5 @@
 -- Runs carry the history on: none of them begins it again.
 use Rattle.std.specs.Prelude.{◌≡◌, List, false, length, ℕ}
-use Rattle.sqlite.specs.Recovery.{Image}
 use Rattle.index_digest.specs.Digest.{sha256}
 use Rattle.index_io.specs.Counts.{HasFailed}
 use Rattle.index_message.specs.Fields.{Field}
@@ -16,7 +15,7 @@ use Rattle.index_desk.specs.Rules.{by_history}
 use Rattle.index_http.specs.Exchanges.{MessageGetsText}
 use Rattle.index_http.specs.Replies.{file_reply, reply_text}
 use Rattle.index.specs.Chains.{ComesByRuns, LeadTo, Run}
-use Rattle.index.specs.Runs.{FindsOnly, Holds, HoldsNone}
+use Rattle.index.specs.Keeping.{FindsNone, FindsOnly, Keeping}
 
 -- at this point of the history, a `GET` of a file name may get the reply with status 200 and these
 -- bytes
@@ -40,19 +39,19 @@ BindServed one other =
 
 -- If the first files hold some part of an index, the last ones do after any runs. A history that
 -- these runs make of a given one goes on from it, and serves each file name as that one did.
-abbrev pub GoesOn : List Run → Image → Image → Type 0
-GoesOn runs first last =
-    (¬ HoldsNone first) → (leads : LeadTo runs first last)
-    → (¬ HoldsNone last)
+abbrev pub GoesOn : {X : Type 0} → Keeping X → List Run → X → X → Type 0
+GoesOn k runs first last =
+    (¬ k.HoldsNone first) → (leads : LeadTo k runs first last)
+    → (¬ k.HoldsNone last)
     × ((given later : History) → IsLegal later
-    → ComesByRuns runs first last leads (λ h. h ≡ given) later
+    → ComesByRuns k runs first last leads (λ h. h ≡ given) later
     → IsFrontOf given later × BindServed given later)
 
 -- the tables stand for a legal history that goes on from one that these runs made
-pub record StandOnwards (runs : List Run) (first mid : Image) (leads : LeadTo runs first mid)
-    (T : Tables) : Type 0 where
+pub record StandOnwards {X : Type 0} (k : Keeping X) (runs : List Run) (first mid : X)
+    (leads : LeadTo k runs first mid) (T : Tables) : Type 0 where
   pub earlier : History
-  pub comes : ComesByRuns runs first mid leads (λ h. ⊥) earlier
+  pub comes : ComesByRuns k runs first mid leads (λ h. ⊥) earlier
   pub later : History
   pub legal : IsLegal later
   pub stands : StandsFor T later
@@ -61,7 +60,7 @@ pub record StandOnwards (runs : List Run) (first mid : Image) (leads : LeadTo ru
 
 -- if the first files hold no index, and those after some runs hold some part of one, then the
 -- tables after more runs go on from the history at that point
-abbrev pub StandOn : List Run → List Run → Image → Image → Image → Type 0
-StandOn runs others first mid last =
-    (¬ ((T : Tables) × Holds first T)) → (leads : LeadTo runs first mid) → (¬ HoldsNone mid)
-    → LeadTo others mid last → FindsOnly last (StandOnwards runs first mid leads)
+abbrev pub StandOn : {X : Type 0} → Keeping X → List Run → List Run → X → X → X → Type 0
+StandOn k runs others first mid last =
+    FindsNone k first → (leads : LeadTo k runs first mid) → (¬ k.HoldsNone mid)
+    → LeadTo k others mid last → FindsOnly k last (StandOnwards k runs first mid leads)

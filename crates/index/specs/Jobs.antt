@@ -20,6 +20,7 @@ use Rattle.index_rules.specs.Maps.{Bytes}
 use Rattle.index_rules.specs.Tables.{Tables}
 use Rattle.index_args.specs.declared.job.Job.{Job}
 use Rattle.index_args.specs.declared.job.Job.TheVariants as job
+use Rattle.index_args.specs.declared.job.Paths.{Paths}
 use Rattle.index_args.specs.declared.job.ArgsEnd.{ArgsEnd}
 use Rattle.index_args.specs.declared.job.ArgsEnd.TheVariants as args_end
 use Rattle.index.specs.declared.database.Finished.{Finished}
@@ -53,11 +54,11 @@ ComesInMemory task result =
     ⊎ ((after : Tables)
     × Does task result (first_tables (codes "office") (sha256 (codes "office"))) after)
 
--- the result of a task on the index in two files if a path is given, and else in memory
-abbrev pub ComesByPath : {D Path : Type 0} → Ghosts D → Option Path → Task → Image
+-- the result of a task on an index, as `Comes` says for its paths, or in memory if none are given
+abbrev pub ComesByPaths : (Paths → Task → Result ℕ End → Type 0) → Option Paths → Task
     → Result ℕ End → Type 0
-ComesByPath g (Some path) task start result = ComesOfRun g task start result
-ComesByPath g None task start result = ComesInMemory task result
+ComesByPaths Comes (Some paths) task result = Comes paths task result
+ComesByPaths Comes None task result = ComesInMemory task result
 
 -- the result of an init with this user, these hex digits of the token's digest, and page sums or
 -- none, on two files that held this: that of closing, or why no index was made
@@ -105,19 +106,19 @@ IsStatusOfInit sink (Err told) result = (result ≡ Err told) × (sink.new ≡ s
 
 -- ---- how a job ends
 
--- a job ended as a run of this task does on the index in two files that held this
-abbrev pub JobEndsAsRun : {D : Type 0} → Ghosts D → Task → Image
+-- a job ended as a run of this task does, whose result comes as `Comes` says
+abbrev pub EndsAsRun : (Task → Result ℕ End → Type 0) → Task
     → (Result ℕ End → Result ExitCode End → Type 0) → Result ExitCode End → Type 0
-JobEndsAsRun g task start IsStatus result =
-    (found : Result ℕ End) × ComesOfRun g task start found × IsStatus found result
+EndsAsRun Comes task IsStatus result =
+    (found : Result ℕ End) × Comes task found × IsStatus found result
 
--- an init ended as a run does, with this user, these hex digits of the token's digest, and page
--- sums or none
-abbrev pub JobEndsAsInit : {D : Type 0} → Ghosts D → Bytes → Bytes → Bool → Image
-    → (Result (Unit {0}) End → Result ExitCode End → Type 0) → Result ExitCode End → Type 0
-JobEndsAsInit g user digits page_sums start IsStatus result =
+-- an init ended as a run does, whose result comes as `Makes` says for its user, the hex digits of
+-- the token's digest, and page sums or none
+abbrev pub EndsAsInit : (Bytes → Bytes → Bool → Result (Unit {0}) End → Type 0) → Bytes → Bytes
+    → Bool → (Result (Unit {0}) End → Result ExitCode End → Type 0) → Result ExitCode End → Type 0
+EndsAsInit Makes user digits page_sums IsStatus result =
     (made : Result (Unit {0}) End)
-    × ComesOfInit g user digits page_sums start made × IsStatus made result
+    × Makes user digits page_sums made × IsStatus made result
 
 -- what a sink had and has
 abbrev pub had_by : {K : Type 0} → SinkStep K → Option (List ℕ)
@@ -127,44 +128,61 @@ abbrev pub has_by : {K : Type 0} → SinkStep K → Option (List ℕ)
 has_by sink = sink.out.contents sink.new
 
 -- the lines of this input were answered to a sink
-abbrev pub ApplyEnds : {D K Path : Type 0} → Ghosts D → Option Path → (given : Option (List ℕ))
-    → Image → SinkStep K → Result ExitCode End → Type 0
-ApplyEnds g path given start sink result = (left : Option (List ℕ)) × (found : Result ℕ End)
-    × ComesByPath g path (AnswerLines given left (had_by sink) (has_by sink)) start found
+abbrev pub ApplyEnds : {K : Type 0} → (Task → Result ℕ End → Type 0) → (given : Option (List ℕ))
+    → SinkStep K → Result ExitCode End → Type 0
+ApplyEnds Comes given sink result = (left : Option (List ℕ)) × (found : Result ℕ End)
+    × Comes (AnswerLines given left (had_by sink) (has_by sink)) found
     × IsStatusOf found result
 
 -- the report was written to a sink
-abbrev pub ReportEnds : {D K : Type 0} → Ghosts D → Image → SinkStep K → Result ExitCode End
-    → Type 0
-ReportEnds g start sink result =
-    JobEndsAsRun g (WriteReport (had_by sink) (has_by sink)) start IsStatusOf result
+abbrev pub ReportEnds : {K : Type 0} → (Task → Result ℕ End → Type 0) → SinkStep K
+    → Result ExitCode End → Type 0
+ReportEnds Comes sink result =
+    EndsAsRun Comes (WriteReport (had_by sink) (has_by sink)) IsStatusOf result
 
 -- a job ended as `Ended` says, or memory ran out
 abbrev pub OrRunsOutOfMemory : Type 0 → Result ExitCode End → Type 0
 OrRunsOutOfMemory Ended result = (result ≡ Err end.OutOfMemory) ⊎ Ended
 
--- How each job ends, on two files that held this, with a sink for what it prints. An apply answered
--- the lines of some input.
+-- how the results of jobs come: of an init, by its paths, and of a task on an index, by its paths
+pub record Coming : Type 1 where
+  pub makes : Paths → Bytes → Bytes → Bool → Result (Unit {0}) End → Type 0
+  pub comes : Paths → Task → Result ℕ End → Type 0
+
+-- How each job ends, whose results come so, with a sink for what it prints. An apply answered the
+-- lines of some input.
+abbrev pub JobEndsBy : {K : Type 0} → Coming → Job → SinkStep K → Result ExitCode End → Type 0
+JobEndsBy by (job.Init paths user digits page_sums) sink result =
+    EndsAsInit (by.makes paths) user.now digits.now page_sums (IsStatusOfInit sink) result
+JobEndsBy by (job.Apply paths) sink result =
+    OrRunsOutOfMemory ((given : Option (List ℕ))
+    × ApplyEnds (ComesByPaths by.comes paths) given sink result) result
+JobEndsBy by (job.Serve paths args) sink result =
+    OrRunsOutOfMemory (EndsAsRun (by.comes paths)
+    (answer_sockets args.at (args.requests * args.rounds)) IsStatusOf result) result
+JobEndsBy by (job.Report paths) sink result = ReportEnds (by.comes paths) sink result
+JobEndsBy by (job.Check paths) sink result =
+    EndsAsRun (by.comes paths) CountWrong (IsStatusOfCheck sink) result
+
+-- the results of jobs on two files that held this
+abbrev pub on_files : {D : Type 0} → Ghosts D → Image → Coming
+on_files g start = record {
+  makes = λ paths user digits page_sums. ComesOfInit g user digits page_sums start;
+  comes = λ paths task. ComesOfRun g task start;
+}
+
+-- how each job ends on two files that held this
 abbrev pub JobEnds : {D K : Type 0} → Ghosts D → Job → Image → SinkStep K → Result ExitCode End
     → Type 0
-JobEnds g (job.Init db user digits page_sums) start sink result =
-    JobEndsAsInit g user.now digits.now page_sums start (IsStatusOfInit sink) result
-JobEnds g (job.Apply db) start sink result =
-    OrRunsOutOfMemory ((given : Option (List ℕ)) × ApplyEnds g db given start sink result) result
-JobEnds g (job.Serve db args) start sink result =
-    OrRunsOutOfMemory (JobEndsAsRun g (answer_sockets args.at (args.requests * args.rounds)) start
-    IsStatusOf result) result
-JobEnds g (job.Report db) start sink result = ReportEnds g start sink result
-JobEnds g (job.Check db) start sink result =
-    JobEndsAsRun g CountWrong start (IsStatusOfCheck sink) result
+JobEnds g asked start sink result = JobEndsBy (on_files g start) asked sink result
 
 -- the path of the database that a job works on
 abbrev pub path_of_job : Job → Option Bytes
-path_of_job (job.Init db user digits page_sums) = Some db.now
-path_of_job (job.Apply db) = option_map (λ path. path.now) db
-path_of_job (job.Serve db args) = Some db.now
-path_of_job (job.Report db) = Some db.now
-path_of_job (job.Check db) = Some db.now
+path_of_job (job.Init paths user digits page_sums) = Some paths.db.now
+path_of_job (job.Apply paths) = option_map (λ it. it.db.now) paths
+path_of_job (job.Serve paths args) = Some paths.db.now
+path_of_job (job.Report paths) = Some paths.db.now
+path_of_job (job.Check paths) = Some paths.db.now
 
 -- ---- how the program ends
 
@@ -172,14 +190,21 @@ path_of_job (job.Check db) = Some db.now
 abbrev pub IsShown : Error → Type 0
 IsShown error = (kind_of error ≡ DisplayHelp) ⊎ (kind_of error ≡ DisplayVersion)
 
--- The status of the program, by its arguments. It is that of the job, or 1 if the job ended with an
--- error. Else it is 1 if memory ran out, 0 or 1 for the help or the version, and 2 for any mistake.
-abbrev pub ProgramEnds : {D K : Type 0} → Ghosts D → Result Job ArgsEnd → Image → SinkStep K
-    → ExitCode → Type 0
-ProgramEnds g (Ok asked) start sink status =
-    (ended : Result ExitCode End) × JobEnds g asked start sink ended
+-- The status of the program, by its arguments. It is that of the job, which ends as `Ends` says, or
+-- 1 if the job ended with an error. Else it is 1 if memory ran out, 0 or 1 for the help or the
+-- version, and 2 for any mistake.
+abbrev pub ProgramEndsBy : (Job → Result ExitCode End → Type 0) → Result Job ArgsEnd → ExitCode
+    → Type 0
+ProgramEndsBy Ends (Ok asked) status =
+    (ended : Result ExitCode End) × Ends asked ended
     × IfOk ended (λ told. status ≡ told) × (IsErr ended → exit_status status ≡ 1)
-ProgramEnds g (Err args_end.OutOfMemory) start sink status = exit_status status ≡ 1
-ProgramEnds g (Err (args_end.Clap error)) start sink status =
+ProgramEndsBy Ends (Err args_end.OutOfMemory) status = exit_status status ≡ 1
+ProgramEndsBy Ends (Err (args_end.Clap error)) status =
     (IsShown error → (exit_status status ≡ 0) ⊎ (exit_status status ≡ 1))
     × ((¬ IsShown error) → exit_status status ≡ 2)
+
+-- the status of the program, on two files that held this
+abbrev pub ProgramEnds : {D K : Type 0} → Ghosts D → Result Job ArgsEnd → Image → SinkStep K
+    → ExitCode → Type 0
+ProgramEnds g read start sink status =
+    ProgramEndsBy (λ asked ended. JobEnds g asked start sink ended) read status

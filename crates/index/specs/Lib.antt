@@ -3,8 +3,11 @@ pub mod Causes
 pub mod Chains
 pub mod Ends
 pub mod GoesOn
+pub mod InVolume
 pub mod Jobs
+pub mod Keeping
 pub mod Openings
+pub mod Pairs
 pub mod Printed
 pub mod Refuted
 pub mod RefutedCalls

@@ -29,6 +29,7 @@ use Rattle.index_rules.specs.declared.open.OpenFault.TheVariants as open_fault
 use Rattle.index_rules.specs.FirstTables.{IsBadFirstUser, first_record}
 use Rattle.index_rules.specs.Maps.{Bytes}
 use Rattle.index_sql_schema.specs.Schema.{index_schema}
+use Rattle.index_sql_schema.specs.Unchanged.{IsUnchangedIfOpen}
 use Rattle.index_sql_opening.specs.Names.{has_any_of}
 use Rattle.index_sql_opening.specs.NewAsks.{asks_of_new}
 use Rattle.index_tables.specs.Adopted.{IsOurs, IsRaised, IsReason}
@@ -187,10 +188,12 @@ pub record IsWhyUnmade {S : Type 0}
   pub store : HasCleanDisk (state g last)
       → StoreForOthers g (asks_of_new 2 user (first_record token)) first last why
 
--- Why no index was found in the database. Its objects and the cause are known only of a clean disk.
+-- Why no index was found in the database, which is as it was. That, its objects and the cause are
+-- known only of a clean disk.
 pub record IsWhyUnfound {S : Type 0}
     (g : Ghosts S) (first last : Held S) (why : OpenFault) : Type 0 where
   pub was_clean : HasCleanDisk (state g last) → HasCleanDisk (state g first)
+  pub stays : HasCleanDisk (state g last) → IsUnchangedIfOpen (state g first) (state g last)
   pub kind : RefusesFound why
   pub reason : HasCleanDisk (state g last) → IsReason g first last why
   -- an index is refused only because memory ran out or the store failed

@@ -28,7 +28,8 @@ use Rattle.index.specs.Chains.{InitLeadsOn, WorkLeadsOn}
 use Rattle.index.specs.Ends.{is_fault_end}
 use Rattle.index.specs.Jobs.{ComesOfInit, ComesOfRun}
 use Rattle.index.specs.Openings.{HoldsSome, OpeningEnds, cause_of_files}
-use Rattle.index.specs.Runs.{Created, CreatedInLog, Holds, HoldsNone, InitEndsOnFiles}
+use Rattle.index.specs.Keeping.{FindsNone}
+use Rattle.index.specs.Runs.{Created, CreatedInLog, HoldsNone, InitEndsOnFiles, in_files}
 use Rattle.index.specs.Runs.{Interrupted, Ran, RunEndsOnFiles}
 use Rattle.index.specs.Tasks.{AnswersConnections, AnswersFirstConnections, AnswersFirstLines}
 use Rattle.index.specs.Tasks.{AnswersLines, AreAmong, CountsWrong, Does, IsServingEnd}
@@ -39,7 +40,7 @@ use Rattle.index.specs.Tasks.{WritesReport}
 
 -- the files hold no index
 abbrev pub HoldsNoIndex : Image → Type 0
-HoldsNoIndex image = ¬ ((T : Tables) × Holds image T)
+HoldsNoIndex = FindsNone in_files
 
 -- the files hold no part of an index, and returned what was written
 abbrev pub AreEmptied : {D : Type 0} → Ghosts D → Files D → Type 0

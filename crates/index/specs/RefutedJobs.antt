@@ -42,44 +42,44 @@ use Rattle.index.specs.SecondLines.{JobPrintsCause, cause_of_open}
 
 -- the job works on the index at a path
 abbrev pub works_on_index : Job → Bool
-works_on_index (job.Init db user digits page_sums) = false
+works_on_index (job.Init paths user digits page_sums) = false
 works_on_index (job.Apply None) = false
-works_on_index (job.Apply (Some path)) = true
-works_on_index (job.Serve db args) = true
-works_on_index (job.Report db) = true
-works_on_index (job.Check db) = true
+works_on_index (job.Apply (Some paths)) = true
+works_on_index (job.Serve paths args) = true
+works_on_index (job.Report paths) = true
+works_on_index (job.Check paths) = true
 
 -- the job makes an index
 abbrev pub makes_index : Job → Bool
-makes_index (job.Init db user digits page_sums) = true
-makes_index (job.Apply db) = false
-makes_index (job.Serve db args) = false
-makes_index (job.Report db) = false
-makes_index (job.Check db) = false
+makes_index (job.Init paths user digits page_sums) = true
+makes_index (job.Apply paths) = false
+makes_index (job.Serve paths args) = false
+makes_index (job.Report paths) = false
+makes_index (job.Check paths) = false
 
 -- the job counts wrong charges
 abbrev pub counts_charges : Job → Bool
-counts_charges (job.Init db user digits page_sums) = false
-counts_charges (job.Apply db) = false
-counts_charges (job.Serve db args) = false
-counts_charges (job.Report db) = false
-counts_charges (job.Check db) = true
+counts_charges (job.Init paths user digits page_sums) = false
+counts_charges (job.Apply paths) = false
+counts_charges (job.Serve paths args) = false
+counts_charges (job.Report paths) = false
+counts_charges (job.Check paths) = true
 
 -- the job writes a report
 abbrev pub writes_report : Job → Bool
-writes_report (job.Init db user digits page_sums) = false
-writes_report (job.Apply db) = false
-writes_report (job.Serve db args) = false
-writes_report (job.Report db) = true
-writes_report (job.Check db) = false
+writes_report (job.Init paths user digits page_sums) = false
+writes_report (job.Apply paths) = false
+writes_report (job.Serve paths args) = false
+writes_report (job.Report paths) = true
+writes_report (job.Check paths) = false
 
 -- the job names a first user and hex digits, of which this holds
 abbrev pub NamesFirstUser : (Bytes → Bytes → Type 0) → Job → Type 0
-NamesFirstUser Is (job.Init db user digits page_sums) = Is user.now digits.now
-NamesFirstUser Is (job.Apply db) = ⊥
-NamesFirstUser Is (job.Serve db args) = ⊥
-NamesFirstUser Is (job.Report db) = ⊥
-NamesFirstUser Is (job.Check db) = ⊥
+NamesFirstUser Is (job.Init paths user digits page_sums) = Is user.now digits.now
+NamesFirstUser Is (job.Apply paths) = ⊥
+NamesFirstUser Is (job.Serve paths args) = ⊥
+NamesFirstUser Is (job.Report paths) = ⊥
+NamesFirstUser Is (job.Check paths) = ⊥
 
 -- a text was written to a sink
 abbrev pub Wrote : {K : Type 0} → SinkStep K → List ℕ → Type 0
@@ -198,6 +198,7 @@ has_no_cause (end.Connections early) = true
 has_no_cause (end.Listen why) = false
 has_no_cause end.OutOfMemory = true
 has_no_cause (end.Store found) = false
+has_no_cause (end.Volume found path) = false
 has_no_cause end.WriteFault = true
 
 -- no job prints another cause of its end than is true
@@ -205,11 +206,14 @@ pub record RefutesCauses (asked : Job) (told : Option Cause) : Type 0 where
   -- another cause of a failed database
   pub store : (found : Option Cause) → (¬ (told ≡ found))
       → ¬ JobPrintsCause asked (end.Store found) told
+  -- another cause of a failed volume
+  pub volume : (found : Option Cause) (path : _) → (¬ (told ≡ found))
+      → ¬ JobPrintsCause asked (end.Volume found path) told
   -- another cause of an address that can't be listened on
   pub address : (why : Cause) → (¬ (told ≡ Some why)) → ¬ JobPrintsCause asked (end.Listen why) told
   -- another cause of a database that is no index, or is one though a new one was to be made
   pub database : (fault : OpenFault) → (¬ (fault ≡ open_fault.BadFirstUser))
-      → (¬ (told ≡ cause_of_open fault)) → ¬ JobPrintsCause asked (end.Open fault) told
+      → (¬ (told ≡ cause_of_open asked fault)) → ¬ JobPrintsCause asked (end.Open fault) told
   -- a cause of an end that has none
   pub none : (ended : End) → has_no_cause ended ≡ true → (¬ (told ≡ None))
       → ¬ JobPrintsCause asked ended told

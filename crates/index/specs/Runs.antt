@@ -31,6 +31,7 @@ use Rattle.index.specs.declared.database.Unclosed.{Unclosed}
 use Rattle.index.specs.declared.database.Unused.{Unused}
 use Rattle.index.specs.declared.end.End.TheVariants as end
 use Rattle.index.specs.Ends.{is_fault_end}
+use Rattle.index.specs.Keeping.{FindsOnly, Keeping}
 use Rattle.index.specs.Openings.{HasSumsAs, HoldsOnly, IsBadFirstUserByHex, IsCleanClosed}
 use Rattle.index.specs.Openings.{cause_of_files}
 use Rattle.index.specs.Openings.{IsOpenedOn, IsUnfound, IsUnmade, IsWhyUnfound, IsWhyUnmade}
@@ -45,10 +46,6 @@ pub record Holds (image : Image) (T : Tables) : Type 0 where
   pub found : IsFound db T
   pub only : HoldsOnly image db
 
--- whatever index a run finds in the files has tables of this kind
-abbrev pub FindsOnly : Image → (Tables → Type 0) → Type 0
-FindsOnly image Are = (found : Tables) → Holds image found → ∥ Are found ∥₁
-
 -- the files hold a current index with these tables, the database file alone does too, and the next
 -- run finds no others
 pub record HoldsCurrent (image : Image) (T : Tables) : Type 0 where
@@ -56,6 +53,18 @@ pub record HoldsCurrent (image : Image) (T : Tables) : Type 0 where
   pub current : IsCurrent 2 db T
   pub held : HoldsAlone image db.trees
   pub next : (found : Tables) → Holds image found → found ≡ T
+
+-- the files held a database, no table of which has the name of one of an index
+pub record HoldsNone (image : Image) : Type 0 where
+  pub db : Database
+  -- the trees of the database list this schema
+  pub sound : IsDatabase db
+  pub only : HoldsOnly image db
+  pub free : has_any_of db.schema index_schema.tables ≡ false
+
+-- an index is kept in two files
+abbrev pub in_files : Keeping Image
+in_files = record { Holds = Holds; HoldsCurrent = HoldsCurrent; HoldsNone = HoldsNone }
 
 -- the files hold these tables now, and so does whatever a crash leaves of them
 pub record HoldsAfterCrash {D : Type 0}
@@ -80,14 +89,6 @@ abbrev pub CrashLeavesOnlyTables : (Trees → Type 0) → (Tables → Type 0) �
 CrashLeavesOnlyTables may_leave Are =
     (db : Trees) → may_leave db → (T : Tables) → (AreCurrent 2 db → T ≡ tables_in db) → Are T
 
--- the files held a database, no table of which has the name of one of an index
-pub record HoldsNone (image : Image) : Type 0 where
-  pub db : Database
-  -- the trees of the database list this schema
-  pub sound : IsDatabase db
-  pub only : HoldsOnly image db
-  pub free : has_any_of db.schema index_schema.tables ≡ false
-
 -- The work on an index was cut short. It reported what `Told` says, and a crash leaves what `Left`
 -- says.
 pub record Interrupted {D : Type 0} {g : Ghosts D}
@@ -102,7 +103,7 @@ pub record Interrupted {D : Type 0} {g : Ghosts D}
   pub last : Held (FileStore D g)
   pub closed : IsClosed last store
   -- whatever index the next run finds is one that the work may leave
-  pub next : (image : Image) → MayLeave last image → FindsOnly image (Left before)
+  pub next : (image : Image) → MayLeave last image → FindsOnly in_files image (Left before)
   -- the next files hold some part of an index
   pub there : (image : Image) → MayLeave last image → ¬ HoldsNone image
 
@@ -121,7 +122,7 @@ pub record CreatedInLog {D : Type 0} {g : Ghosts D}
   pub left : CrashLeavesOnlyTables (over_files.recovers store) (λ found. found ≡ T)
   pub last : Held (FileStore D g)
   pub closed : IsClosed last store
-  pub next : (image : Image) → MayLeave last image → FindsOnly image (λ found. found ≡ T)
+  pub next : (image : Image) → MayLeave last image → FindsOnly in_files image (λ found. found ≡ T)
   pub there : (image : Image) → MayLeave last image → ¬ HoldsNone image
 
 -- ---- a run of work on the index in two files

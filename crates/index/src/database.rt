@@ -316,7 +316,7 @@ fn work_in<S: Alter + Drop, W: Work>(
 ///
 /// `OutOfMemory` or `Store` if the copy fails. The changes are kept then too, in the log, which the store has.
 #[tactic(auto, using(crate::proofs::FaultLemmas::error_is_fault))]
-fn close<D: Disk + Drop>(conn: Connection<FileStore<D>>) -> Closed<D>
+pub fn close<D: Disk + Drop>(conn: Connection<FileStore<D>>) -> Closed<D>
     ensures copied { IfOk result (λ it. AreClean D.Disk it.log it.db → IsCopied conn it) }
     ensures kept { IfErr result (λ it. IsClosed conn it.store) }
     ensures fault { IfErr result (λ it. IsTrue (is_fault_end it.fault)) }

@@ -10,15 +10,16 @@ ghost use Rattle.index_http.specs.Steps.{to_sink};
 ghost use Rattle.index_rules.specs.FirstTables.{first_tables};
 ghost use Rattle.index_rules.specs.Tables.{Tables};
 ghost use Rattle.index.specs.Ends.{end_by, is_store};
-ghost use Rattle.index.specs.Jobs.{ComesByPath, ComesOfInit, ComesOfRun, ApplyEnds, JobEndsAsRun};
-ghost use Rattle.index.specs.Jobs.{JobEndsAsInit, ReportEnds, IsStatusOf};
-ghost use Rattle.index.specs.Jobs.{IsStatusOfCheck, IsStatusOfInit};
+ghost use Rattle.index.specs.Jobs.{ApplyEnds, ComesByPaths, ComesOfInit, EndsAsInit, EndsAsRun, ReportEnds};
+ghost use Rattle.index.specs.Jobs.{IsStatusOf, IsStatusOfCheck, IsStatusOfInit};
+ghost use Rattle.index.specs.Pairs.{ComesByVolume, MakesByVolume, on_pair};
 ghost use Rattle.index.specs.Tasks.{CountWrong, Does, answer_sockets};
 
-use crate::database::{self, Finished, Work};
+use crate::database::{self, Work};
 use crate::end::End;
 use crate::serving::serving_by;
-use index_args::ServeArgs;
+use crate::{new_pair, pair};
+use index_args::{Paths, ServeArgs};
 use index_cache::Cache;
 use index_caching::CachesAnswers;
 use index_cli::apply_lines;
@@ -41,19 +42,21 @@ pub struct Ended<K> {
 }
 
 /// Makes a new index, with page sums or without, and writes to a sink that it did.
-pub fn init<S: Start, K: Sink>(
+pub fn init<S: Start, V: Start, K: Sink>(
     rt: &HostRuntime,
-    db: &str,
+    paths: Paths<'_>,
     start: S,
+    volume: V,
     user: &str,
     token: &str,
     page_sums: bool,
     sink: &mut K,
 ) -> Result<ExitCode, End>
-    ensures { JobEndsAsInit ⟦<FileFrom<S> as Disk>⟧ user.now token.now page_sums
-        (image_at S.Start) (IsStatusOfInit (to_sink K.Sink sink.old sink.new)) result }
+    ensures { EndsAsInit (MakesByVolume ⟦<FileFrom<S> as Disk>⟧ paths.entry.volume
+        (image_at S.Start)) user.now token.now page_sums
+        (IsStatusOfInit (to_sink K.Sink sink.old sink.new)) result }
 {
-    create(rt, db, start, user, token, page_sums)?;
+    create(rt, paths, start, volume, user, token, page_sums)?;
     match write_line(sink, b"created") {
         Ok(()) => Ok(ExitCode::SUCCESS),
         Err(_) => Err(End::WriteFault),
@@ -76,7 +79,26 @@ fn write_line<K: Sink>(sink: &mut K, text: &[u8]) -> Result<(), usize>
 }
 
 /// Makes a new index in a file.
-fn create<S: Start>(
+fn create<S: Start, V: Start>(
+    rt: &HostRuntime,
+    paths: Paths<'_>,
+    start: S,
+    volume: V,
+    user: &str,
+    token: &str,
+    page_sums: bool,
+) -> Result<(), End>
+    ensures { MakesByVolume ⟦<FileFrom<S> as Disk>⟧ paths.entry.volume (image_at S.Start)
+        user.now token.now page_sums result }
+{
+    match paths.volume {
+        Some(_) => new_pair::create(rt, paths, start, volume, user, token, page_sums),
+        None => create_alone(rt, paths.db, start, user, token, page_sums),
+    }
+}
+
+/// Makes a new index in a file, without a volume.
+fn create_alone<S: Start>(
     rt: &HostRuntime,
     db: &str,
     start: S,
@@ -104,18 +126,20 @@ pub fn standard_input(rt: &HostRuntime) -> Result<Input<BufReader<Stdin>>, End>
 }
 
 /// Answers the lines of a source on a sink, with the tables of a database or with tables in memory.
-pub fn apply<S: Start, R: Source + Drop, K: Sink>(
+pub fn apply<S: Start, V: Start, R: Source + Drop, K: Sink>(
     rt: &HostRuntime,
-    db: Option<&str>,
+    paths: Option<Paths<'_>>,
     start: S,
+    volume: V,
     source: R,
     sink: K,
 ) -> Ended<K>
-    ensures { ApplyEnds ⟦<FileFrom<S> as Disk>⟧ db.entry (R.remaining source) (image_at S.Start)
+    ensures { let by = on_pair ⟦<FileFrom<S> as Disk>⟧ ⟦<FileFrom<V> as Disk>⟧ (image_at S.Start)
+        V.Start.db in ApplyEnds (ComesByPaths by.comes paths.entry) (R.remaining source)
         (to_sink K.Sink sink result.sink) result.end }
 {
     let mut lines = Lines { source, sink };
-    let found = work_by_path(rt, db, start, &mut lines);
+    let found = work_by_path(rt, paths, start, volume, &mut lines);
     let Lines {
         source: _source,
         sink,
@@ -133,39 +157,41 @@ pub fn apply<S: Start, R: Source + Drop, K: Sink>(
 }
 
 /// Does work on the index in a file or, without a path, on tables in memory, and returns the number that it found.
-fn work_by_path<S: Start, W: Work>(
+fn work_by_path<S: Start, V: Start, W: Work>(
     rt: &HostRuntime,
-    db: Option<&str>,
+    paths: Option<Paths<'_>>,
     start: S,
+    volume: V,
     work: &mut W,
 ) -> Result<u64, End>
-    ensures { ComesByPath ⟦<FileFrom<S> as Disk>⟧ db.entry (W.task work.old work.new)
-        (image_at S.Start) result }
+    ensures { let by = on_pair ⟦<FileFrom<S> as Disk>⟧ ⟦<FileFrom<V> as Disk>⟧ (image_at S.Start)
+        V.Start.db in ComesByPaths by.comes paths.entry (W.task work.old work.new) result }
 {
-    match db {
-        Some(db) => work_on(rt, db, start, work),
+    match paths {
+        Some(paths) => work_on(rt, paths, start, volume, work),
         None => work_in_memory(rt, work)?,
     }
 }
 
 /// Does work on the index in a file, and returns the number that it found.
-fn work_on<S: Start, W: Work>(
+fn work_on<S: Start, V: Start, W: Work>(
     rt: &HostRuntime,
-    db: &str,
+    paths: Paths<'_>,
     start: S,
+    volume: V,
     work: &mut W,
 ) -> Result<u64, End>
-    ensures { ComesOfRun ⟦<FileFrom<S> as Disk>⟧ (W.task work.old work.new)
-        (image_at S.Start) result }
+    ensures { ComesByVolume ⟦<FileFrom<S> as Disk>⟧ ⟦<FileFrom<V> as Disk>⟧ paths.entry.volume
+        (image_at S.Start) V.Start.db (W.task work.old work.new) result }
 {
-    match database::work_on(rt, db, start, work) {
-        Ok(Finished { closed, end }) => ended_by(end, database::let_go(closed)),
-        Err(unused) => Err(database::end_of_unused(rt.alloc(), unused)),
+    match paths.volume {
+        Some(_) => pair::work_on(rt, paths, start, volume, work),
+        None => pair::work_by_version(rt, paths, start, volume, work),
     }
 }
 
 /// The result of work and of closing. If the database failed in the work, closing has the cause.
-fn ended_by(end: Result<u64, End>, closed: Result<(), End>) -> Result<u64, End>
+pub fn ended_by(end: Result<u64, End>, closed: Result<(), End>) -> Result<u64, End>
     ensures is { result ≡ end_by end closed }
 
     // Case by case: the result of the work, unless closing failed and the work did not, or the database failed in both.
@@ -230,28 +256,37 @@ impl<R: Source, K: Sink> Work for Lines<R, K> {
 }
 
 /// Answers rounds of connections with the tables of a database, which is opened before the first of them can come.
-pub fn serve<S: Start>(
+pub fn serve<S: Start, V: Start>(
     rt: &HostRuntime,
-    db: &str,
+    paths: Paths<'_>,
     start: S,
+    volume: V,
     site: &Site,
     args: ServeArgs<'_>,
 ) -> Result<ExitCode, End>
-    ensures { JobEndsAsRun ⟦<FileFrom<S> as Disk>⟧ (answer_sockets args.entry.at
-        (args.entry.requests * args.entry.rounds)) (image_at S.Start) IsStatusOf result }
+    ensures { EndsAsRun (ComesByVolume ⟦<FileFrom<S> as Disk>⟧ ⟦<FileFrom<V> as Disk>⟧
+        paths.entry.volume (image_at S.Start) V.Start.db) (answer_sockets args.entry.at
+        (args.entry.requests * args.entry.rounds)) IsStatusOf result }
 {
     let mut serving = serving_by(site, args);
-    work_on(rt, db, start, &mut serving)?;
+    work_on(rt, paths, start, volume, &mut serving)?;
     Ok(ExitCode::SUCCESS)
 }
 
 /// Writes the report on the tables of a database to a sink.
-pub fn report<S: Start, K: Sink>(rt: &HostRuntime, db: &str, start: S, sink: K) -> Ended<K>
-    ensures { ReportEnds ⟦<FileFrom<S> as Disk>⟧ (image_at S.Start)
+pub fn report<S: Start, V: Start, K: Sink>(
+    rt: &HostRuntime,
+    paths: Paths<'_>,
+    start: S,
+    volume: V,
+    sink: K,
+) -> Ended<K>
+    ensures { ReportEnds (ComesByVolume ⟦<FileFrom<S> as Disk>⟧ ⟦<FileFrom<V> as Disk>⟧
+        paths.entry.volume (image_at S.Start) V.Start.db)
         (to_sink K.Sink sink result.sink) result.end }
 {
     let mut reporting = Reporting { sink };
-    let found = work_on(rt, db, start, &mut reporting);
+    let found = work_on(rt, paths, start, volume, &mut reporting);
     let Reporting { sink } = reporting;
     match found {
         Ok(_) => Ended {
@@ -292,16 +327,18 @@ impl<K: Sink> Work for Reporting<K> {
 }
 
 /// Writes to a sink how many names have a wrong charge in a database, and fails if any has.
-pub fn check<S: Start, K: Sink>(
+pub fn check<S: Start, V: Start, K: Sink>(
     rt: &HostRuntime,
-    db: &str,
+    paths: Paths<'_>,
     start: S,
+    volume: V,
     sink: &mut K,
 ) -> Result<ExitCode, End>
-    ensures { JobEndsAsRun ⟦<FileFrom<S> as Disk>⟧ CountWrong (image_at S.Start)
+    ensures { EndsAsRun (ComesByVolume ⟦<FileFrom<S> as Disk>⟧ ⟦<FileFrom<V> as Disk>⟧
+        paths.entry.volume (image_at S.Start) V.Start.db) CountWrong
         (IsStatusOfCheck (to_sink K.Sink sink.old sink.new)) result }
 {
-    let count = work_on(rt, db, start, &mut Checking)?;
+    let count = work_on(rt, paths, start, volume, &mut Checking)?;
     let mut buffer = Buffer::new();
     match write_line(sink, buffer.format(count).as_bytes()) {
         Ok(()) => Ok(status_of(count)),

@@ -1,6 +1,6 @@
 //! The second line that an end prints: the cause, if it is known, and its subject.
 ghost use Rattle.std.specs.Prelude.{◌≡◌, option_map};
-ghost use Rattle.index.specs.SecondLines.{JobPrintsCause, subject_of};
+ghost use Rattle.index.specs.SecondLines.{JobPrintsCause, cause_of_version, subject_of, volume_of_job};
 
 use crate::cause::Cause;
 use crate::end::End;
@@ -14,6 +14,10 @@ pub fn cause_of_end(asked: Job<'_>, end: End) -> Option<Cause>
 {
     match end {
         End::Store(cause) => cause,
+        End::Volume { cause, path } => {
+            drop(path);
+            cause
+        }
         End::Listen(cause) => Some(cause),
         End::Open(OpenFault::BadFirstUser) => match asked {
             Job::Init { token, .. } => match Digest256::read_hex(token.as_bytes()) {
@@ -25,8 +29,32 @@ pub fn cause_of_end(asked: Job<'_>, end: End) -> Option<Cause>
         },
         End::Open(OpenFault::NotEmpty) => Some(Cause::HasTables),
         End::Open(OpenFault::NotAnIndex) => Some(Cause::NoIndex),
-        End::Open(OpenFault::OtherVersion) => Some(Cause::OtherVersion),
+        End::Open(OpenFault::OtherVersion) => Some(cause_of_version(asked)),
         _ => None,
+    }
+}
+
+/// The cause of an index of another version.
+fn cause_of_version(asked: Job<'_>) -> Cause
+    ensures { result ≡ cause_of_version asked.entry }
+{
+    if volume_of_job(asked).is_some() {
+        Cause::WithoutVolume
+    } else {
+        Cause::OtherVersion
+    }
+}
+
+/// The path of the volume that a job is given.
+fn volume_of_job<'a>(asked: Job<'a>) -> Option<&'a str>
+    ensures { result ≡ volume_of_job asked.entry }
+{
+    match asked {
+        Job::Init { paths, .. }
+        | Job::Serve { paths, .. }
+        | Job::Report { paths }
+        | Job::Check { paths } => paths.volume,
+        Job::Apply { paths } => paths?.volume,
     }
 }
 
@@ -37,9 +65,10 @@ pub fn subject_of<'a>(asked: Job<'a>, cause: &Cause) -> Option<&'a str>
     match asked {
         Job::Serve { args, .. } if cause.is_of_address() => Some(args.listen),
         _ if cause.is_of_address() => None,
-        Job::Init { db, .. } | Job::Serve { db, .. } | Job::Report { db } | Job::Check { db } => {
-            Some(db)
-        }
-        Job::Apply { db } => db,
+        Job::Init { paths, .. }
+        | Job::Serve { paths, .. }
+        | Job::Report { paths }
+        | Job::Check { paths } => Some(paths.db),
+        Job::Apply { paths } => Some(paths?.db),
     }
 }

@@ -6,6 +6,7 @@ use Rattle.std.specs.Str.Parse.{IsNumeral, digits_value, without_leading_plus}
 use Rattle.clap.specs.Words.{Row, Text, first_of, found_of, rows_of, subcommand_of}
 use Rattle.clap.specs.declared.parser.matches.ArgMatches.{ArgMatches}
 use Rattle.index_args.specs.declared.job.Job.{Job}
+use Rattle.index_args.specs.declared.job.Paths.{Paths}
 use Rattle.index_args.specs.declared.job.Job.TheVariants as job
 use Rattle.index_args.specs.Program.{index_app}
 
@@ -49,27 +50,35 @@ abbrev pub IsNumberOr : ℕ → Option Text → ℕ → Type 0
 IsNumberOr default None n = n ≡ default
 IsNumberOr default (Some text) n = IsDecimalText n text
 
+-- the options have the path of a database, and that of its volume if one is given
+abbrev pub HasPaths : List Row → Paths → Type 0
+HasPaths rows paths = HasText (codes "db") rows paths.db.now
+    × (first_of (codes "volume") rows ≡ option_map (λ volume. volume.now) paths.volume)
+
+-- these paths, or neither is given
+abbrev pub HasPathsOrNone : List Row → Option Paths → Type 0
+HasPathsOrNone rows None =
+    (first_of (codes "db") rows ≡ None) × (first_of (codes "volume") rows ≡ None)
+HasPathsOrNone rows (Some paths) = HasPaths rows paths
+
 -- the job is that of the subcommand, with the values of its options
 abbrev pub IsJob : Option (Text × List Row) → Job → Type 0
 IsJob None job = ⊥
-IsJob (Some (name, rows)) (job.Init db user token page_sums) = (name ≡ codes "init")
-    × HasText (codes "db") rows db.now × HasText (codes "user") rows user.now
+IsJob (Some (name, rows)) (job.Init paths user token page_sums) = (name ≡ codes "init")
+    × HasPaths rows paths × HasText (codes "user") rows user.now
     × HasText (codes "token-sha256") rows token.now
     × (IsTrue page_sums ↔ IsGiven (codes "page-sums") rows)
-IsJob (Some (name, rows)) (job.Apply db) = (name ≡ codes "apply")
-    × (first_of (codes "db") rows ≡ option_map (λ db. db.now) db)
-IsJob (Some (name, rows)) (job.Serve db args) = (name ≡ codes "serve")
-    × HasText (codes "db") rows db.now × HasText (codes "listen") rows args.listen.now
+IsJob (Some (name, rows)) (job.Apply paths) = (name ≡ codes "apply") × HasPathsOrNone rows paths
+IsJob (Some (name, rows)) (job.Serve paths args) = (name ≡ codes "serve")
+    × HasPaths rows paths × HasText (codes "listen") rows args.listen.now
     × HasNumber (codes "requests") rows args.requests
     × (1 ≤ args.requests) × (args.requests ≤ 1000000)
     × IsNumberOr 1 (first_of (codes "rounds") rows) args.rounds
     × (1 ≤ args.rounds) × (args.rounds ≤ 1000000)
     × HasNumberOrNone (codes "at") rows args.at
     × HasNumberOrNone (codes "keep-recent") rows args.keep_recent
-IsJob (Some (name, rows)) (job.Report db) = (name ≡ codes "report")
-    × HasText (codes "db") rows db.now
-IsJob (Some (name, rows)) (job.Check db) = (name ≡ codes "check")
-    × HasText (codes "db") rows db.now
+IsJob (Some (name, rows)) (job.Report paths) = (name ≡ codes "report") × HasPaths rows paths
+IsJob (Some (name, rows)) (job.Check paths) = (name ≡ codes "check") × HasPaths rows paths
 
 -- the arguments ask for this job, as clap reads them
 abbrev pub AskFor : List Text → Job → Type 0

@@ -1,5 +1,5 @@
 -- The command line of the program: its subcommands and their options, as clap reads them.
-use Rattle.std.specs.Prelude.{◌≡◌, ℕ, Some, true, false, codes, [], IfOk, Result}
+use Rattle.std.specs.Prelude.{◌≡◌, ℕ, Some, true, false, codes, [], ◌∷◌, IfOk, Result}
 use Rattle.clap.specs.Words.{App, Rule, Text, app_of, new_app, new_rule, rule_of, with_rule}
 use Rattle.clap.specs.Words.{with_subcommand}
 use Rattle.clap.specs.declared.builder.action.ArgAction.TheVariants.{SetTrue}
@@ -32,22 +32,35 @@ any_number rule = number_between 0 18446744073709551615 rule
 abbrev pub database_app : Text → App
 database_app name = with_rule (new_app name) (required (codes "db"))
 
+-- a subcommand that needs a database, and may have its volume
+abbrev pub paths_app : Text → App
+paths_app name = with_rule (database_app name) (option (codes "volume"))
+
+-- the volume of a new index: without a value it is read as the empty text
+abbrev pub new_volume_option : Rule
+new_volume_option = record (option (codes "volume")) {
+  range = Some (record { start_inclusive = 0; end_inclusive = 1 });
+  missing = [] ∷ [];
+}
+
 -- the subcommand `init` with its options
 abbrev pub init_app : App
 init_app =
-    with_rule (with_rule (with_rule (database_app (codes "init")) (required (codes "user")))
-    (required (codes "token-sha256")))
-    (flag_option (codes "page-sums"))
+    with_rule (with_rule (with_rule (with_rule (database_app (codes "init"))
+    (required (codes "user"))) (required (codes "token-sha256")))
+    (flag_option (codes "page-sums")))
+    new_volume_option
 
--- the subcommand `apply`, with an optional database
+-- the subcommand `apply`, with an optional database and volume
 abbrev pub apply_app : App
-apply_app = with_rule (new_app (codes "apply")) (option (codes "db"))
+apply_app =
+    with_rule (with_rule (new_app (codes "apply")) (option (codes "db"))) (option (codes "volume"))
 
 -- the subcommand `serve` with its options
 abbrev pub serve_app : App
 serve_app =
     with_rule (with_rule (with_rule (with_rule (with_rule
-    (database_app (codes "serve")) (required (codes "listen")))
+    (paths_app (codes "serve")) (required (codes "listen")))
     (number_between 1 1000000 (required (codes "requests"))))
     (number_between 1 1000000 (option (codes "rounds"))))
     (any_number (option (codes "at"))))
@@ -64,8 +77,8 @@ program_app = record {
 abbrev pub index_app : App
 index_app =
     with_subcommand (with_subcommand (with_subcommand (with_subcommand (with_subcommand program_app
-    init_app.top) apply_app.top) serve_app.top) (database_app (codes "report")).top)
-    (database_app (codes "check")).top
+    init_app.top) apply_app.top) serve_app.top) (paths_app (codes "report")).top)
+    (paths_app (codes "check")).top
 
 -- the code's option is this one, and only its own command reads it
 pub record IsArg (arg : Arg) (shape : Rule) : Type 0 where

@@ -2,7 +2,7 @@
 ghost use Rattle.std.specs.Prelude.{◌≡◌, codes};
 ghost use Rattle.clap.specs.Words.{App, rule_of, with_subcommand};
 ghost use Rattle.index_args.specs.Program.{AppIsMade, IsApp, IsArg, any_number, flag_option, number_between, option, required};
-ghost use Rattle.index_args.specs.Program.{apply_app, database_app, index_app, init_app, serve_app};
+ghost use Rattle.index_args.specs.Program.{apply_app, database_app, index_app, init_app, new_volume_option, paths_app, serve_app};
 
 use clap::builder::ValueParser;
 use clap::{Arg, ArgAction, Command};
@@ -14,6 +14,10 @@ const VERSION: &str = "0.4.0 (rattle-kit-13 logic dac8208d650f15bf)";
 
 /// The help of the option `--db`.
 const DATABASE: &str = "The file of the index, an SQLite database";
+
+/// The help of the option `--volume`, but for `init`.
+const VOLUME: &str =
+    "The volume of an index that has one, if it is not beside the database, its name with -volume";
 
 /// An option that may be left out.
 fn optional_arg<'a>(alloc: Global, name: &'a str, help: &'a str) -> Arg<'a>
@@ -53,6 +57,24 @@ fn on_database<'a>(alloc: Global, name: &'a str, about: &'a str) -> Result<Comma
         .arg(required_arg(alloc, "db", DATABASE))
 }
 
+/// A subcommand that needs the files of an index.
+fn on_paths<'a>(alloc: Global, name: &'a str, about: &'a str) -> Result<Command<'a>, AllocError>
+    ensures { AppIsMade result (paths_app name.entry.now) }
+{
+    on_database(alloc, name, about)?.arg(optional_arg(alloc, "volume", VOLUME))
+}
+
+/// The option `--volume` of `init`, whose value may be left out.
+fn new_volume<'a>(alloc: Global) -> Arg<'a>
+    ensures { IsArg result new_volume_option }
+{
+    let help =
+        "Keeps the bytes of files in a volume: a new file here, or beside the database, its name with -volume";
+    optional_arg(alloc, "volume", help)
+        .num_args(0..=1)
+        .default_missing_value("")
+}
+
 /// The subcommand `init` and its options.
 fn init<'a>(alloc: Global) -> Result<Command<'a>, AllocError>
     ensures { AppIsMade result init_app }
@@ -66,16 +88,18 @@ fn init<'a>(alloc: Global) -> Result<Command<'a>, AllocError>
     )?
     .arg(required_arg(alloc, "user", "The id of the first user"))?
     .arg(required_arg(alloc, "token-sha256", digest))?
-    .arg(flag(alloc, "page-sums", sums))
+    .arg(flag(alloc, "page-sums", sums))?
+    .arg(new_volume(alloc))
 }
 
-/// The subcommand `apply` and its option.
+/// The subcommand `apply` and its options.
 fn apply<'a>(alloc: Global) -> Result<Command<'a>, AllocError>
     ensures { AppIsMade result apply_app }
 {
     Command::new(alloc, "apply")
         .about("Answers each line of standard input")
-        .arg(optional_arg(alloc, "db", DATABASE))
+        .arg(optional_arg(alloc, "db", DATABASE))?
+        .arg(optional_arg(alloc, "volume", VOLUME))
 }
 
 /// The option `--requests`.
@@ -115,7 +139,7 @@ fn serve<'a>(alloc: Global) -> Result<Command<'a>, AllocError>
     ensures { AppIsMade result serve_app }
 {
     let help = "The address and port to listen on";
-    on_database(alloc, "serve", "Answers HTTP requests, one a connection")?
+    on_paths(alloc, "serve", "Answers HTTP requests, one a connection")?
         .arg(required_arg(alloc, "listen", help))?
         .arg(requests(alloc))?
         .arg(rounds(alloc))?
@@ -150,7 +174,7 @@ pub fn index<'a>(alloc: Global) -> Result<Command<'a>, AllocError>
     let index = add_subcommand(index, serve(alloc))?;
     let index = add_subcommand(
         index,
-        on_database(alloc, "report", "Prints a line for each name"),
+        on_paths(alloc, "report", "Prints a line for each name"),
     )?;
-    add_subcommand(index, on_database(alloc, "check", check))
+    add_subcommand(index, on_paths(alloc, "check", check))
 }

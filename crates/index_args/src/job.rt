@@ -3,7 +3,7 @@ ghost use Rattle.std.specs.Prelude.{◌≡◌, ◌≤◌, ◌<◌, ◌^◌, [], 
 ghost use Rattle.std.specs.Prelude.{◌↔◌, codes, map, option_map, string_bytes, IfErr, IfOk, IsOk, IsTrue};
 ghost use Rattle.clap.specs.Words.{first_of, subcommand_rows_of};
 ghost use Rattle.index_args.specs.Program.{index_app, IsApp};
-ghost use Rattle.index_args.specs.Jobs.{FindsExactly, HasNumberOrNone, IsGiven, IsJob, IsDecimalText, IsNumberOr, rows_entered, rows_in};
+ghost use Rattle.index_args.specs.Jobs.{FindsExactly, HasNumberOrNone, HasPaths, HasPathsOrNone, IsGiven, IsJob, IsDecimalText, IsNumberOr, rows_entered, rows_in};
 ghost use Rattle.index_args.specs.Reading.{ReadsJob};
 
 use crate::command;
@@ -11,7 +11,16 @@ use clap::error::ErrorKind;
 use clap::{ArgMatches, Command, Error};
 use std::alloc::{AllocError, Global};
 
-/// The options of `serve`, without the path.
+/// The paths of an index's files.
+#[derive(Clone, Copy, Debug, PartialEq, Eq)]
+pub struct Paths<'a> {
+    /// The path of its database.
+    pub db: &'a str,
+    /// The path of its volume, if one is given. An empty one stands for that of the database with `-volume`.
+    pub volume: Option<&'a str>,
+}
+
+/// The options of `serve`, without the paths.
 #[derive(Clone, Copy, Debug, PartialEq, Eq)]
 pub struct ServeArgs<'a> {
     /// The address and port to listen on.
@@ -31,8 +40,8 @@ pub struct ServeArgs<'a> {
 pub enum Job<'a> {
     /// Makes a new index.
     Init {
-        /// The path of its database.
-        db: &'a str,
+        /// The paths of its files. A volume is made if one is given.
+        paths: Paths<'a>,
         /// The id of its first user, as given.
         user: &'a str,
         /// The hex digits of the digest of that user's token, as given.
@@ -42,25 +51,25 @@ pub enum Job<'a> {
     },
     /// Answers the lines of standard input.
     Apply {
-        /// The path of the index's database, or none for tables in memory.
-        db: Option<&'a str>,
+        /// The paths of the index's files, or none for tables in memory.
+        paths: Option<Paths<'a>>,
     },
     /// Answers HTTP requests, one for each connection.
     Serve {
-        /// The path of the index's database.
-        db: &'a str,
+        /// The paths of the index's files.
+        paths: Paths<'a>,
         /// Its other options.
         args: ServeArgs<'a>,
     },
     /// Prints the report.
     Report {
-        /// The path of the index's database.
-        db: &'a str,
+        /// The paths of the index's files.
+        paths: Paths<'a>,
     },
     /// Counts the names with a wrong charge.
     Check {
-        /// The path of the index's database.
-        db: &'a str,
+        /// The paths of the index's files.
+        paths: Paths<'a>,
     },
 }
 
@@ -118,7 +127,10 @@ fn job_in<'a>(command: &mut Command<'a>, args: &'a [String]) -> Result<Job<'a>, 
     let matches = command.try_get_matches_from_mut(args)?;
     match job_of(&matches) {
         Some(job) => Ok(job),
-        None => Err(ArgsEnd::Clap(command.error(ErrorKind::MissingSubcommand, "no subcommand")?)),
+        None => {
+            let text = "--volume is given without --db";
+            Err(ArgsEnd::Clap(command.error(ErrorKind::MissingSubcommand, text)?))
+        }
     }
 }
 
@@ -128,7 +140,7 @@ fn job_of<'a>(matches: &ArgMatches<'a>) -> Option<Job<'a>>
 {
     match entered_subcommand(matches)? {
         ("init", given) => init_of(given),
-        ("apply", given) => Some(apply_of(given)),
+        ("apply", given) => apply_of(given),
         ("serve", given) => serve_of(given),
         ("report", given) => report_of(given),
         ("check", given) => check_of(given),
@@ -147,12 +159,12 @@ fn entered_subcommand<'m, 'a>(matches: &'m ArgMatches<'a>) -> Option<(&'a str, &
 fn init_of<'a>(given: &ArgMatches<'a>) -> Option<Job<'a>>
     ensures { FindsExactly (IsJob (Some (codes "init", rows_in given.now))) result }
 {
-    let db = text(given, "db")?;
+    let paths = paths_of(given)?;
     let user = text(given, "user")?;
     let token = text(given, "token-sha256")?;
     let page_sums = is_given(given, "page-sums");
     Some(Job::Init {
-        db,
+        paths,
         user,
         token,
         page_sums,
@@ -160,34 +172,34 @@ fn init_of<'a>(given: &ArgMatches<'a>) -> Option<Job<'a>>
 }
 
 /// The job of the subcommand `apply` with these options.
-fn apply_of<'a>(given: &ArgMatches<'a>) -> Job<'a>
-    ensures { IsJob (Some (codes "apply", rows_in given.now)) result }
+fn apply_of<'a>(given: &ArgMatches<'a>) -> Option<Job<'a>>
+    ensures { FindsExactly (IsJob (Some (codes "apply", rows_in given.now))) result }
 {
-    let db = text(given, "db");
-    Job::Apply { db }
+    let paths = paths_or_none(given)?;
+    Some(Job::Apply { paths })
 }
 
 /// The job of the subcommand `report` with these options.
 fn report_of<'a>(given: &ArgMatches<'a>) -> Option<Job<'a>>
     ensures { FindsExactly (IsJob (Some (codes "report", rows_in given.now))) result }
 {
-    let db = text(given, "db")?;
-    Some(Job::Report { db })
+    let paths = paths_of(given)?;
+    Some(Job::Report { paths })
 }
 
 /// The job of the subcommand `check` with these options.
 fn check_of<'a>(given: &ArgMatches<'a>) -> Option<Job<'a>>
     ensures { FindsExactly (IsJob (Some (codes "check", rows_in given.now))) result }
 {
-    let db = text(given, "db")?;
-    Some(Job::Check { db })
+    let paths = paths_of(given)?;
+    Some(Job::Check { paths })
 }
 
 /// The job of the subcommand `serve` with these options.
 fn serve_of<'a>(given: &ArgMatches<'a>) -> Option<Job<'a>>
     ensures { FindsExactly (IsJob (Some (codes "serve", rows_in given.now))) result }
 {
-    let db = text(given, "db")?;
+    let paths = paths_of(given)?;
     let listen = text(given, "listen")?;
     let requests = count(text(given, "requests")?)?;
     let rounds = rounds_of(given)?;
@@ -200,7 +212,27 @@ fn serve_of<'a>(given: &ArgMatches<'a>) -> Option<Job<'a>>
         at,
         keep_recent,
     };
-    Some(Job::Serve { db, args })
+    Some(Job::Serve { paths, args })
+}
+
+/// The paths of an index's files.
+fn paths_of<'a>(given: &ArgMatches<'a>) -> Option<Paths<'a>>
+    ensures { FindsExactly (HasPaths (rows_in given.now)) result }
+{
+    let db = text(given, "db")?;
+    let volume = text(given, "volume");
+    Some(Paths { db, volume })
+}
+
+/// The paths of an index's files, if they are given. A volume needs its database.
+fn paths_or_none<'a>(given: &ArgMatches<'a>) -> Option<Option<Paths<'a>>>
+    ensures { FindsExactly (HasPathsOrNone (rows_in given.now)) result }
+{
+    match (text(given, "db"), text(given, "volume")) {
+        (Some(db), volume) => Some(Some(Paths { db, volume })),
+        (None, None) => Some(None),
+        (None, Some(_)) => None,
+    }
 }
 
 /// The text of an option.

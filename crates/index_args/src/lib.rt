@@ -4,4 +4,4 @@
 mod command;
 mod job;
 
-pub use job::{ArgsEnd, Job, ServeArgs, read_args};
+pub use job::{ArgsEnd, Job, Paths, ServeArgs, read_args};

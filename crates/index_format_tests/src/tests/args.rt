@@ -1,5 +1,5 @@
 //! Command lines of each subcommand, and those that are refused.
-use index_args::{ArgsEnd, Job, ServeArgs, read_args};
+use index_args::{ArgsEnd, Job, Paths, ServeArgs, read_args};
 use std::alloc::AllocGlobal;
 use std::process::Abort;
 
@@ -30,11 +30,24 @@ fn assert_ends(rt: &(impl Abort + AllocGlobal), line: &str, status: i32) {
     );
 }
 
+/// The path of a database alone.
+fn alone(db: &str) -> Paths<'_> {
+    Paths { db, volume: None }
+}
+
+/// The path of a database, and that of its volume.
+fn beside<'a>(db: &'a str, volume: &'a str) -> Paths<'a> {
+    Paths {
+        db,
+        volume: Some(volume),
+    }
+}
+
 #[test]
 fn reads_the_words(rt: HostRuntime) {
     let token = "ba78";
     let made = Job::Init {
-        db: "a",
+        paths: alone("a"),
         user: "office",
         token,
         page_sums: false,
@@ -50,7 +63,7 @@ fn reads_the_words(rt: HostRuntime) {
         made,
     );
     let summed = Job::Init {
-        db: "a",
+        paths: alone("a"),
         user: "office",
         token,
         page_sums: true,
@@ -60,10 +73,38 @@ fn reads_the_words(rt: HostRuntime) {
         "index init --page-sums --db a --user office --token-sha256 ba78",
         summed,
     );
-    assert_asks(&rt, "index apply", Job::Apply { db: None });
-    assert_asks(&rt, "index apply --db a", Job::Apply { db: Some("a") });
-    assert_asks(&rt, "index report --db a", Job::Report { db: "a" });
-    assert_asks(&rt, "index check --db a", Job::Check { db: "a" });
+    let paths = alone("a");
+    assert_asks(&rt, "index apply", Job::Apply { paths: None });
+    assert_asks(&rt, "index apply --db a", Job::Apply { paths: Some(paths) });
+    assert_asks(&rt, "index report --db a", Job::Report { paths });
+    assert_asks(&rt, "index check --db a", Job::Check { paths });
+}
+
+/// An init with a volume, with and without its path.
+fn assert_makes_volume(rt: &(impl Abort + AllocGlobal), options: &str, volume: &str) {
+    let line = format!(in rt.alloc(); "index init --user office {options} --token-sha256 ba78");
+    let line = line.expect(rt, "a line");
+    let made = Job::Init {
+        paths: beside("a", volume),
+        user: "office",
+        token: "ba78",
+        page_sums: false,
+    };
+    assert_asks(rt, line.as_str(), made);
+}
+
+#[test]
+fn reads_the_path_of_a_volume(rt: HostRuntime) {
+    assert_makes_volume(&rt, "--db a --volume b", "b");
+    assert_makes_volume(&rt, "--volume=b --db a", "b");
+    assert_makes_volume(&rt, "--db a --volume", "");
+    assert_makes_volume(&rt, "--volume --db a", "");
+    assert_makes_volume(&rt, "--db a --volume=", "");
+    let paths = beside("a", "b");
+    let apply = Job::Apply { paths: Some(paths) };
+    assert_asks(&rt, "index apply --volume b --db a", apply);
+    assert_asks(&rt, "index report --db a --volume b", Job::Report { paths });
+    assert_asks(&rt, "index check --db a --volume b", Job::Check { paths });
 }
 
 #[test]
@@ -99,8 +140,11 @@ fn reads_serve(rt: HostRuntime) {
             at,
             keep_recent,
         };
-        let job = Job::Serve { db: "a", args };
-        assert_asks(&rt, line.as_str(), job);
+        let paths = alone("a");
+        assert_asks(&rt, line.as_str(), Job::Serve { paths, args });
+        let more = format!(in rt.alloc(); "{line} --volume b").expect(&rt, "a line");
+        let paths = beside("a", "b");
+        assert_asks(&rt, more.as_str(), Job::Serve { paths, args });
     }
 }
 
@@ -118,6 +162,12 @@ fn refuses_other_words(rt: HostRuntime) {
         "index apply now",
         "index apply --db",
         "index apply --db a --db b",
+        "index apply --volume b",
+        "index apply --db a --volume",
+        "index check --volume b",
+        "index report --db a --volume",
+        "index init --db a --user office --token-sha256 ba78 --volume b c",
+        "index init --db a --user office --token-sha256 ba78 --volume --volume",
         "index report",
         "index report --db",
         "index check",
@@ -171,6 +221,7 @@ fn refuses_other_serves(rt: HostRuntime) {
         "index serve --db a --listen 127.0.0.1:0 --requests 1 --at 18446744073709551616",
         "index serve --db a --listen 127.0.0.1:0 --requests 1 --requests 2",
         "index serve --db a --listen 127.0.0.1:0 --requests 1 --keep-recent -1",
+        "index serve --db a --listen 127.0.0.1:0 --requests 1 --volume",
     ];
     for line in refused {
         assert_ends(&rt, line, 2);

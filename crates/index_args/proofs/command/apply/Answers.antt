@@ -8,4 +8,5 @@ use Rattle.index_args.proofs.command.apply.Goals as goal
 pub returns : goal.returns
 returns c =
     let none : IsApp c.about.result (new_app (codes "apply")) = search rules in
-    IfOk-weaker c.arg.result _ _ (λ command adds. IsApp-arg _ _ _ _ _ none c.optional_arg.ensures adds) c.arg.ensures
+    let one = IsApp-arg _ _ _ _ _ none c.optional_arg.ensures c.in_ok-arg.ensures in
+    IfOk-weaker c.arg-2.result _ _ (λ command adds. IsApp-arg _ _ _ _ _ one c.optional_arg-2.ensures adds) c.arg-2.ensures

@@ -14,5 +14,5 @@ returns c =
     let one = c.in_ok-index.ensures _ _ none c.init.ensures in
     let two = c.in_ok-index-2.ensures _ _ one c.apply.ensures in
     let three = c.in_ok-index-3.ensures _ _ two c.serve.ensures in
-    let four = c.in_ok-index-4.ensures _ _ three c.on_database.ensures in
-    c.add_subcommand-5.ensures _ _ four c.on_database-2.ensures
+    let four = c.in_ok-index-4.ensures _ _ three c.on_paths.ensures in
+    c.add_subcommand-5.ensures _ _ four c.on_paths-2.ensures

@@ -6,4 +6,5 @@ pub returns : goal.returns
 returns c =
     let one = IsApp-arg _ _ _ _ _ c.in_ok-on_database.ensures c.required_arg.ensures c.in_ok-arg.ensures in
     let two = IsApp-arg _ _ _ _ _ one c.required_arg-2.ensures c.in_ok-arg-2.ensures in
-    IfOk-weaker c.arg-3.result _ _ (λ command adds. IsApp-arg _ _ _ _ _ two c.flag.ensures adds) c.arg-3.ensures
+    let three = IsApp-arg _ _ _ _ _ two c.flag.ensures c.in_ok-arg-3.ensures in
+    IfOk-weaker c.arg-4.result _ _ (λ command adds. IsApp-arg _ _ _ _ _ three c.new_volume.ensures adds) c.arg-4.ensures

@@ -13,11 +13,11 @@ other P name same differs = let never : true ≡ false = ap (λ text. bytes_eq t
 -- if the option is misread, there is no such job
 misread : (rows : List Row) (P : Type 0) → ((n : Option ℕ) → HasNumberOrNone (codes "keep-recent") rows n → false ≡ true) → (asked : Job)
     → IsJob (Some (codes "serve", rows)) asked → P
-misread rows P none (job.Init db user token page_sums) is = other P _ is.0 refl
-misread rows P none (job.Apply db) is = other P _ is.0 refl
-misread rows P none (job.Serve db args) is = let never = none args.keep_recent is.10 in cc
-misread rows P none (job.Report db) is = other P _ is.0 refl
-misread rows P none (job.Check db) is = other P _ is.0 refl
+misread rows P none (job.Init paths user token page_sums) is = other P _ is.0 refl
+misread rows P none (job.Apply paths) is = other P _ is.0 refl
+misread rows P none (job.Serve paths args) is = let never = none args.keep_recent is.10 in cc
+misread rows P none (job.Report paths) is = other P _ is.0 refl
+misread rows P none (job.Check paths) is = other P _ is.0 refl
 
 pub returns-in_err-keep_recent : goal.returns-in_err-keep_recent
 returns-in_err-keep_recent c = record {

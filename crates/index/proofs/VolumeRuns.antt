@@ -1,0 +1,144 @@
+-- Work over a database and its volume leads from the pair that it found to the next one.
+use Rattle.std.proofs.Common.{◌≡◌, ◌∙◌, ap, inl, inr, false, refl, subst, sym, ℕ, List, Result, Ok, Err, IfOk, IsTrue, None, Some, length}
+use Rattle.sqlite.specs.Closing.{IsCopied}
+use Rattle.sqlite.specs.declared.FileStore.{FileStore}
+use Rattle.sqlite.specs.Effect.{Database, IsDatabase}
+use Rattle.sqlite.specs.Files.{file_state, over_files}
+use Rattle.sqlite.specs.Held.{Held}
+use Rattle.sqlite.specs.Recovery.{Image}
+use Rattle.sqlite.specs.WalReads.{AreClean}
+use Rattle.sqlite_disk.specs.declared.Disk.{Ghosts}
+use Rattle.sqlite_disk.specs.declared.Files.{Files}
+use Rattle.index_rules.specs.declared.open.OpenFault.{OpenFault}
+use Rattle.index_rules.specs.FirstTables.{first_tables}
+use Rattle.index_rules.specs.Maps.{Bytes}
+use Rattle.index_rules.specs.Tables.{Tables}
+use Rattle.index_sql_opening.specs.Names.{has_any_of}
+use Rattle.index_sql_reads.specs.ConnectionTables.{tables_of}
+use Rattle.index_sql_schema.specs.Schema.{index_schema}
+use Rattle.index_sql_schema.proofs.BearerLemmas.{one_bearer}
+use Rattle.index_tables.specs.BooksState.{BooksState, IsHonest, IsWorking}
+use Rattle.index_tables.specs.Adopted.{IsCommitted}
+use Rattle.index_tables.specs.Opened.{AreNew}
+use Rattle.index_tables.specs.Placed.{TakesPlaced}
+use Rattle.index_volume_books.specs.Over.{Fits, over}
+use Rattle.index_volume_books.specs.Through.{both_tables}
+use Rattle.index.specs.declared.database.Unclosed.{Unclosed}
+use Rattle.index.specs.declared.end.End.{End}
+use Rattle.index.specs.Chains.{CreatedRun, EndedRun, LeadsOn}
+use Rattle.index.specs.InVolume.{AllClean, HoldsPlaced, HoldsPlacedAlone, IsNextPair, IsNextOf, Pair, in_volume}
+use Rattle.index.specs.Openings.{HoldsOnly, IsOpenedOn, IsWhyUnfound}
+use Rattle.index.specs.Pairs.{EndsOver, HasDatabaseOf, IsDatabaseOf, LeavesToNext, TookAndRan, placed_side}
+use Rattle.index.specs.Tasks.{Task}
+use Rattle.index.proofs.RunLemmas.{only_of, working_of}
+use Rattle.index.proofs.VolumeLemmas.{image_to_next, left_to_next, no_places}
+
+-- ---- the database that was found
+
+module _ {D : Type 0} {g : Ghosts D} where
+  pub database_of_opened : (start : Image) (conn : Held (FileStore D g)) → IsOpenedOn start conn → HasDatabaseOf start conn
+  database_of_opened start conn opened working = let opening = opened working.clean in record {
+    sound = (opening.0.1 opening.0.0.is_open).0;
+    only = only_of start conn opening.0 opening.1;
+  }
+
+  -- a refused database is as it was
+  pub database_of_refused : (start : Image) (last : Held (FileStore D g)) (why : OpenFault) (first : Held (FileStore D g))
+      → IsOpenedOn start first → IsWhyUnfound over_files first last why → HasDatabaseOf start last
+  database_of_refused start last why first opened unfound working =
+      let stays = unfound.stays working.clean in
+      let is_open = stays.was_open working.is_open in
+      let was : IsWorking (file_state first) = record { clean = unfound.was_clean working.clean; is_open = is_open } in
+      let same : (file_state last).now ≡ (file_state first).now = stays.now_is working.is_open in
+      let found = database_of_opened start first opened was in
+      record {
+        sound = subst IsDatabase (sym same) found.sound;
+        only = subst (HoldsOnly start) (sym same) found.only;
+      }
+
+  committed_of : (last : Held (FileStore D g)) → IsHonest 3 (file_state last)
+      → IsCommitted 3 (file_state last) (tables_of over_files last)
+  committed_of last honest = record {
+    current = record { index = honest.index; version = honest.version; tables = refl };
+    committed = honest.committed;
+  }
+
+-- ---- work that ended
+
+module _ {D E : Type 0} {g : Ghosts D} (e : Ghosts E) (task : Task) (start : Pair) (conn : Held (FileStore D g))
+    (books : BooksState (FileStore D g)) (has : HasDatabaseOf start.image conn) (takes : TakesPlaced over_files conn (Ok books)) where
+  -- the pair held the tables that were taken
+  held : {result : Result ℕ End} (disk : E) → e.seen disk ≡ start.volume → (it : TookAndRan e task books.conn disk result)
+      → IsHonest 3 (file_state it.first) → IsTrue (e.is_clean it.first_disk)
+      → HoldsPlaced start (both_tables (placed_side over_files e it.first it.first_disk))
+  held disk same it honest clean =
+      let before = it.taken.settled.honest honest in
+      let working : IsWorking (file_state books.conn) = record { clean = before.clean; is_open = before.is_open } in
+      record {
+        db = (file_state conn).now;
+        places = tables_of over_files books.conn;
+        current = takes.found working;
+        only = (has (takes.opened.was_working working)).only;
+        within = record {
+          fits = subst (λ (volume : List ℕ). Fits (length volume) (tables_of over_files books.conn)) same (it.taken.fits (honest, clean));
+          whole = ap (λ (volume : List ℕ). over volume (tables_of over_files it.first)) (it.taken.settled.volume ∙ same)
+              ∙ ap (over start.volume) (it.taken.settled.unchanged honest);
+        };
+      }
+
+  ended : {result : Result ℕ End} (disk : E) → e.seen disk ≡ start.volume → (it : TookAndRan e task books.conn disk result)
+      → (files : Files D) → IsCopied it.ran.last files → AllClean g e files it.ran.last_disk
+      → (next : Pair) → IsNextPair g e files it.ran.last_disk next
+      → LeadsOn in_volume (EndedRun task it.ran.early) start next
+  ended disk same it files copied clean next is =
+      let honest = it.ran.honest (working_of it.ran.last files copied) in
+      let was = it.ran.worked.honest (honest, clean.1) in
+      record {
+        before = both_tables (placed_side over_files e it.first it.first_disk);
+        after = both_tables (placed_side over_files e it.ran.last it.ran.last_disk);
+        held = held disk same it was.0 was.1;
+        did = it.ran.worked.done (honest, clean.1) (one_bearer (file_state it.first).now was.0.index);
+        left = left_to_next e it.ran.last files it.ran.last_disk (tables_of over_files it.ran.last) it.ran.left.end_at copied
+            (committed_of it.ran.last honest) (it.ran.left.placed honest) (it.ran.left.kept clean.1) next is;
+      }
+
+  closed_ended : {result : Result ℕ End} (disk : E) → e.seen disk ≡ start.volume → (it : TookAndRan e task books.conn disk result)
+      → (closed : Result (Files D) (Unclosed D g)) → IfOk closed (λ files. AreClean g files.log files.db → IsCopied it.ran.last files)
+      → IfOk closed (λ files. AllClean g e files it.ran.last_disk → (next : Pair) → IsNextPair g e files it.ran.last_disk next
+      → LeadsOn in_volume (EndedRun task it.ran.early) start next)
+  closed_ended disk same it (Ok files) copied = λ clean. ended disk same it files (copied clean.0) clean
+  closed_ended disk same it (Err unclosed) copied = tt
+
+  pub leaves_to_next : {result : Result ℕ End} (over : EndsOver e task books.conn start.volume result) → LeavesToNext e task start over
+  leaves_to_next (inl without) = tt
+  leaves_to_next (inr it) = closed_ended it.0 it.1 it.2 it.2.ran.closed it.2.ran.copied
+
+-- ---- a new index
+
+module _ {D : Type 0} {g : Ghosts D} (user token : Bytes) (conn : Held (FileStore D g)) (books : BooksState (FileStore D g))
+    (new : AreNew 3 over_files (first_tables user token) conn books)
+    (free : has_any_of (file_state conn).now.schema index_schema.tables ≡ false)
+    (works : IsWorking (file_state books.conn) → IsHonest 3 (file_state books.conn)) where
+  created : (start : Pair) → HasDatabaseOf start.image conn → (files : Files D) → IsCopied books.conn files
+      → (next : Pair) → IsNextOf g files next.image → LeadsOn in_volume (CreatedRun user token) start next
+  created start has files copied next is =
+      let working = working_of books.conn files copied in
+      let found = has (new.opened.was_working working) in
+      let honest = works working in (
+        record { db = (file_state conn).now; sound = found.sound; only = found.only; free = free },
+        record {
+          db = (file_state books.conn).now;
+          places = first_tables user token;
+          current = record { index = honest.index; version = honest.version; tables = sym (new.tables working) };
+          held = image_to_next books.conn files copied honest.committed next.image is;
+          within = no_places next.volume user token;
+        },
+      )
+
+  pub created_to_next : (closed : Result (Files D) (Unclosed D g))
+      → IfOk closed (λ files. AreClean g files.log files.db → IsCopied books.conn files)
+      → (start : Pair) → HasDatabaseOf start.image conn
+      → IfOk closed (λ files. AreClean g files.log files.db → (next : Pair) → IsNextOf g files next.image
+      → LeadsOn in_volume (CreatedRun user token) start next)
+  created_to_next (Ok files) copied start has = λ clean. created start has files (copied clean)
+  created_to_next (Err unclosed) copied start has = tt

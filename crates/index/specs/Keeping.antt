@@ -1,0 +1,26 @@
+-- How an index is kept, as in two files. Runs, and the history that they carry on, need no more of
+-- the files.
+use Rattle.std.specs.Prelude.{◌≡◌}
+use Rattle.index_rules.specs.Tables.{Tables}
+
+-- what it means that this holds an index
+pub record Keeping (X : Type 0) : Type 1 where
+  -- it holds an index with these tables
+  pub Holds : X → Tables → Type 0
+  -- it holds a current index with these tables, and the next run finds no others
+  pub HoldsCurrent : X → Tables → Type 0
+  -- it holds no part of an index
+  pub HoldsNone : X → Type 0
+
+-- a current index is found again, as it is
+pub record FindsAgain {X : Type 0} (k : Keeping X) : Type 0 where
+  pub same : (x : X) (T found : Tables) → k.HoldsCurrent x T → k.Holds x found → found ≡ T
+  pub there : (x : X) (T : Tables) → k.HoldsCurrent x T → ¬ k.HoldsNone x
+
+-- a run finds no index
+abbrev pub FindsNone : {X : Type 0} → Keeping X → X → Type 0
+FindsNone k x = ¬ ((T : Tables) × k.Holds x T)
+
+-- whatever index a run finds has tables of this kind
+abbrev pub FindsOnly : {X : Type 0} → Keeping X → X → (Tables → Type 0) → Type 0
+FindsOnly k x Are = (found : Tables) → k.Holds x found → ∥ Are found ∥₁
