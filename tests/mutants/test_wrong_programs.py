@@ -3,6 +3,7 @@
 With `--build`, or by turns with `--share`, the programs are built, some minutes each, in --kept-programs; else only
 each edit is made in memory. With `--prove` the crates that an edit changes are proved with it."""
 import os
+from types import SimpleNamespace
 
 import pytest
 from support.breaks import has_test
@@ -18,6 +19,7 @@ FAULTS, CRASHES = "tests/storage/test_faults.py", "tests/storage/test_crashes.py
 CACHE, CAUSES, CLOCK, CONTROLS, ENDS, MEMORY, SHUT, SIZES = (
     f"tests/program/test_{it}.py"
     for it in ("cache", "causes", "clock", "controls", "ends", "refused_memory", "shut", "sizes"))
+VOLUME = "tests/program/test_volume.py"
 ORDER = "tests/program/test_order.py::test_clients_that_wait_are_answered_in_their_order"
 # by the name of an edit, the test that fails
 CAUGHT_BY = {
@@ -74,6 +76,9 @@ CAUGHT_BY = {
     "sizes_ten_times_as_much_is_kept_by_default":
         f"{CACHE}::test_what_is_kept_takes_as_much_memory_as_it_may_and_no_more[by-default]",
     "sizes_text_keeps_the_room_that_it_grew_into": f"{CACHE}::test_a_long_page_is_found_again",
+    "volume_at_a_link_is_taken": f"{VOLUME}::test_a_link_to_a_volume",
+    "volume_is_looked_for_beside_a_link": f"{VOLUME}::test_a_database_at_the_end_of_a_link_has_its_volume_beside_it",
+    "volume_of_other_bytes_is_made_new": f"{VOLUME}::test_init_beside_a_file_that_is_there",
 }
 # what clauses refuse by now: here they only try the tests
 REFUSED = ("program_check_prints_at_most_nine", "sizes_first_file_alone_is_found_again",
@@ -93,11 +98,23 @@ def test_can_be_made(name):
     assert EDITS[name].texts()
 
 
+def shared_folder_of(config, factory):
+    """A folder for what is built, which is the same for all workers of a run: none compiles what another one has."""
+    own = factory.getbasetemp()
+    return (own.parent if hasattr(config, "workerinput") else own) / "programs"
+
+
+def test_workers_keep_what_they_build_in_one_folder(tmp_path):
+    workers = [SimpleNamespace(getbasetemp=lambda name=name: tmp_path / name) for name in ("gw0", "gw1")]
+    assert {shared_folder_of(SimpleNamespace(workerinput={}), it) for it in workers} == {tmp_path / "programs"}
+    assert shared_folder_of(SimpleNamespace(), workers[0]) == tmp_path / "gw0/programs"
+
+
 @pytest.fixture(scope="session")
 def wrong_program(pytestconfig, tmp_path_factory):
     """Builds a wrong program, once, and returns its path."""
     def build(name):
-        kept = os.path.abspath(pytestconfig.option.kept_programs or tmp_path_factory.mktemp("programs"))
+        kept = os.path.abspath(pytestconfig.option.kept_programs or shared_folder_of(pytestconfig, tmp_path_factory))
         os.makedirs(kept, exist_ok=True)
         program = f"{kept}/{name}"
         if not os.path.exists(program):

@@ -2,8 +2,10 @@
 from pathlib import Path
 from types import SimpleNamespace
 
-from edits import Edit, made_together
-from support.running import write_below
+import pytest
+from edits import Edit, changed_since, made_together, share_of
+from support.planted import catches
+from support.running import new_repository, write_below
 
 TEXTS = 'const A: &str = "a = 1";\nconst B: &str = "b = 2";\n'
 
@@ -26,3 +28,26 @@ def test_twins_that_name_no_function_are_made_together_if_they_fit(tmp_path):
     # both change the same text
     again = twin(tmp_path, "again", "a = 1", "a = (1)")
     assert made_together(str(tmp_path), [first, again]) is None
+
+
+@catches("tools/lib/edits.py", "crate.name in whole or at", "at")
+@catches("tools/lib/edits.py", "(share[0] - 1) % of", "0", case="2")
+@pytest.mark.parametrize("turn", range(1, 5))
+def test_a_share_has_every_fourth_crate_and_those_that_changed(turn):
+    crates = [Path(name) for name in "abcdefghij"]
+    of_all = dict.fromkeys(crates, ["an edit"])
+    shares = [[it.name for it in share_of(of_all, (count, 4))] for count in range(turn, turn + 4)]
+    assert sorted(sum(shares, [])) == [it.name for it in crates] and max(map(len, shares)) == 3
+    assert [it.name for it in share_of(of_all, (turn, 4), {"e", "f"})] == sorted({*shares[0], "e", "f"})
+
+
+@catches("tools/lib/edits.py", "return names if ended.returncode else", "return")
+@catches("tools/lib/edits.py", "except OSError:\n        return names", "except OSError:\n        return ()")
+def test_the_crates_that_changed_are_told_and_all_where_git_can_not_tell(monkeypatch, tmp_path):
+    first, second = new_repository(tmp_path, ["crates/a/x", "crates/b/x"])
+    assert changed_since(str(tmp_path), first, "abc") == {"b"} and changed_since(str(tmp_path), second, "abc") == set()
+    write_below(tmp_path, "crates/a/x", "changed, and in no commit")
+    assert changed_since(str(tmp_path), second, "abc") == {"a"}
+    assert changed_since(str(tmp_path), "12345678", "abc") == "abc"
+    monkeypatch.setenv("PATH", "/none")
+    assert changed_since(str(tmp_path), second, "abc") == "abc"

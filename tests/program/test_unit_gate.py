@@ -8,14 +8,18 @@ import signal
 import subprocess
 import sys
 from functools import partial
+from pathlib import Path
+from zlib import crc32
 
 import pytest
+from support.breaks import names_of
 from support.durations import name_of, write
-from support.inner_runs import run_tests
+from support.inner_runs import copy_rooms, run_tests
+from support.options import is_of_share
 from support.places import TOP
 from support.planted import catches
 from support.programs import program_of
-from support.running import run_command
+from support.running import new_repository, run_command, write_below
 
 
 @catches("tests/conftest.py", 'given.get("dist") == "loadgroup"', "False")
@@ -40,27 +44,101 @@ def test_times_that_can_not_be_kept_end_no_run(tmp_path):
     assert os.listdir(tmp_path) == ["parts.json"]
 
 
-@catches("tests/run", "with suppress(OSError):", "if True:")
-def test_without_git_the_gate_has_its_first_turn(monkeypatch, capfd):
+# what commits add, one after the other
+CHANGES = [f"crates/a/{number}" for number in range(4)]
+
+
+def gate_of(monkeypatch, folder, lines):
+    """The gate, in another repository with these lines of landings.txt."""
     gate = program_of(f"{TOP}/tests/run")
+    monkeypatch.setattr(gate, "TOP", str(folder))
+    monkeypatch.setattr(gate, "LANDINGS", f"{folder}/landings.txt")
+    (folder / "landings.txt").write_text("".join(f"{it}\n" for it in ("# what it is", *lines)))
+    return gate
+
+
+def test_each_landing_has_its_line_and_stands_on_another_commit():
+    """By two lines of one landing a share would be stepped over."""
+    gate = program_of(f"{TOP}/tests/run")
+    lines = [it for it in Path(gate.LANDINGS).read_text().splitlines() if not it.startswith("#")]
+    assert [it for it in lines if not re.fullmatch(r"20\d\d-\d\d-\d\d [0-9a-f]{8,40}", it)] == []
+    assert len({it.split()[1] for it in lines}) == len(lines) == len(gate.landings()) > 0
+
+
+@catches("tests/run", "with suppress(OSError):", "if True:")
+@catches("tests/run", "return None if ended.returncode else ended.stdout", "return ended.stdout")
+def test_without_git_all_counts_as_changed(monkeypatch, tmp_path, capfd):
+    gate = gate_of(monkeypatch, tmp_path, ["2026-11-30 be9a0440"])
     monkeypatch.setenv("GIT_DIR", "/none")
-    assert gate.commits() == 1
+    assert gate.has_changed("crates/a", gate.landings(), 1)
+    gate.want_a_line()
     monkeypatch.setenv("PATH", "/none")
-    assert gate.commits() == 1 and capfd.readouterr() == ("", "")
+    assert gate.has_changed("crates/a", gate.landings(), 1) and capfd.readouterr() == ("", "")
+
+
+@catches("tests/run", "landings[-count]", "landings[-1]")
+@catches("tests/run", '!= ""\n', 'is None\n')
+def test_what_changed_counts_since_so_many_landings(monkeypatch, tmp_path):
+    first, second, third = new_repository(tmp_path, CHANGES[:3])
+    gate = gate_of(monkeypatch, tmp_path, [])
+    assert not gate.has_changed("crates/b", [first, second], 2)
+    assert gate.has_changed("crates/b", [first, second], 3)
+    assert gate.has_changed("crates/a", [second, third], 2) and not gate.has_changed("crates/a", [second, third], 1)
+
+
+@catches("tests/run", "if since > MOST_COMMITS:", "if False:", case="4-True")
+@pytest.mark.parametrize("count, is_told", [(3, False), (4, True)])
+def test_landings_without_a_line_are_told(monkeypatch, tmp_path, count, is_told):
+    first, *_ = new_repository(tmp_path, CHANGES[:count])
+    gate = gate_of(monkeypatch, tmp_path, [f"2026-11-30 {first}"])
+    monkeypatch.setattr(gate, "MOST_COMMITS", 2)
+    if is_told:
+        with pytest.raises(SystemExit, match=f"3 commits stand on {first}, the newest line"):
+            gate.want_a_line()
+    else:
+        gate.want_a_line()
+
+
+@catches("tests/run", "turn = len(known)", "turn = 16 * len(known)")
+def test_each_turn_is_the_next_one(monkeypatch):
+    """So that each share of each part has its turn in ten landings."""
+    gate = program_of(f"{TOP}/tests/run")
+
+    def shares(landings):
+        monkeypatch.setattr(gate, "landings", lambda: ["x"] * landings)
+        parts = [part for parts in gate.whole(1) for part in parts]
+        return {it.name: it.words[it.words.index("--share") + 1].split("/") for it in parts if "--share" in it.words}
+
+    seen = [shares(count) for count in range(1, 11)]
+    for name in ("tests", "try-edits", "try-twins", "try-rules"):
+        counts = {int(it[name][1]) for it in seen if name in it}
+        assert len(counts) == 1 and max(counts) <= 10
+        of = counts.pop()
+        assert {int(it[name][0]) % of for it in seen if name in it} == {*range(of)}, name
 
 
 @catches("tests/run", '"-c", f"safe.directory={TOP}", "-C"', '"-C"')
 @pytest.mark.skipif(os.geteuid() != 0, reason="only root may give a repository to another user")
 def test_the_turns_go_on_in_the_repository_of_another_user(monkeypatch, tmp_path):
     """As in a container, where git else refuses to look at it."""
-    git = ["git", "-C", str(tmp_path), "-c", "user.name=ann", "-c", "user.email=ann@example.org"]
-    for words in (["init"], *[["commit", "--allow-empty", "--message", "a change"]] * 2):
-        assert run_command([*git, *words]).returncode == 0
+    _, second = new_repository(tmp_path, CHANGES[:2])
     for path in (tmp_path, tmp_path / ".git"):
         os.chown(path, 65534, 65534)
+    gate = gate_of(monkeypatch, tmp_path, [])
+    assert not gate.has_changed("crates/a", [second], 1)
+
+
+@catches("tests/run", "(turn + turn // TURNS) % 2 == 1", "turn % 2 == 1")
+@catches("tests/run", "not has_volume(len(landings()))", "has_volume(len(landings()))")
+def test_indexes_have_a_volume_at_each_second_turn_and_each_share_at_each_second_time(monkeypatch):
     gate = program_of(f"{TOP}/tests/run")
-    monkeypatch.setattr(gate, "TOP", str(tmp_path))
-    assert gate.commits() == 2
+    turns = ["--volume" in gate.tests(1, turn).words for turn in range(2 * gate.TURNS)]
+    assert turns[:3] == [False, True, False]
+    assert all(one != other for one, other in zip(turns[:gate.TURNS], turns[gate.TURNS:]))
+    for turn, has_volume in enumerate(turns):
+        monkeypatch.setattr(gate, "landings", lambda: ["x"] * turn)
+        words = gate.other_tests(1).words
+        assert ("--volume" in words) != has_volume and f"{TOP}/tests" not in words and f"{TOP}/tests/storage" in words
 
 
 @catches("tests/run", "signal.signal(signal.SIGPIPE, signal.SIG_DFL)", "pass")
@@ -201,6 +279,44 @@ def test_one_test_that_failed_has_to_pass_twice_alone(tmp_path, runs, is_by_chan
 
 
 def test_a_test_that_runs_by_turns_runs_alone_whatever_its_turn_is():
-    one, words = "test_breaks.py::test_is_seen[server-nobody_waits]", ["--collect-only", "--share", "1/16"]
-    assert one not in run_tests(TOP, [f"tests/mutants/{one}"], *words).said
-    assert one in run_tests(TOP, [f"tests/mutants/{one}"], *words, "--alone").said
+    name = "test_is_seen[server-nobody_waits]"
+    one = f"tests/mutants/test_breaks.py::{name}"
+    for turn in range(2):
+        words = ["--collect-only", "--share", f"{crc32(name.encode()) + turn}/16"]
+        assert (name in run_tests(TOP, [one], *words).said) == (turn == 0)
+    assert name in run_tests(TOP, [one], *words, "--alone").said
+
+
+@catches("tests/support/options.py", "zlib.crc32(name.encode())", "len(name)")
+@catches("tests/support/options.py", "== which[0] % which[1]", "== which[0]")
+def test_each_name_is_of_one_share_whatever_stands_beside_it():
+    names = [f"test_is_seen[server-{number}]" for number in range(1000)]
+    counts = [sum(is_of_share(it, (turn, 10)) for it in names) for turn in range(11, 21)]
+    assert sum(counts) == 1000 and min(counts) > 60 and not is_of_share(names[0], None)
+
+
+@catches("tests/conftest.py", 'it.name if hasattr(it, "callspec") else it.path.name', "it.name")
+def test_tests_of_a_file_that_share_what_takes_long_take_their_turn_together():
+    """Those that are not: each by its parameters."""
+    turn, file = crc32(b"test_pipelines.py"), "tests/storage/test_pipelines.py"
+    seen = run_tests(TOP, [file], "--collect-only", "--share", f"{turn}/10").said
+    assert {*names_of(file)} <= {f"tests/{it}" for it in seen.splitlines()}
+    assert "::" not in run_tests(TOP, [file], "--collect-only", "--share", f"{turn + 1}/10").said
+
+
+ORDER = """
+import pytest
+def test_short(): pass
+@pytest.mark.timeout(1_000)
+def test_long(): pass
+@pytest.mark.timeout(400)
+def test_longer(): pass
+"""
+
+
+@catches("tests/conftest.py", "items.sort(key=limit_of, reverse=True)", "pass")
+def test_a_worker_begins_with_what_may_take_longest(tmp_path):
+    copy = copy_rooms(f"{tmp_path}/copy")
+    write_below(copy, "tests/model/test_order.py", ORDER)
+    seen = run_tests(copy, ["tests/model/test_order.py"], "-vv", "-n", "1").said
+    assert re.findall(r"PASSED .*::test_(\w+)", seen) == ["long", "longer", "short"]

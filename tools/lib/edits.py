@@ -3,6 +3,7 @@ from __future__ import annotations
 
 import os
 import re
+import subprocess
 from typing import Any, Collection, Dict, Iterator, Mapping, Sequence, Tuple
 
 from texts import read
@@ -224,11 +225,26 @@ def made_together(folder: str, edits: Sequence[Edit]) -> dict[str, str] | None:
     return texts
 
 
-def share_of(edits: dict[Any, list[Edit]], share: tuple[int, int]) -> dict[Any, list[Edit]]:
-    """Returns the edits of every n-th crate, from the k-th on, of a share (k, n). So many crates are in each: their
-    checks cost less than those of single edits from all crates. A k that is too great goes round."""
+def share_of(edits: dict[Any, list[Edit]], share: tuple[int, int],
+             whole: Collection[str] = ()) -> dict[Any, list[Edit]]:
+    """Returns the edits of every n-th crate, from the k-th on, of a share (k, n), and those of the crates of these
+    names. So many crates are in each: their checks cost less than those of single edits from all crates. A k that is
+    too great goes round."""
     of = min(share[1], len(edits)) or 1
-    return {crate: its for at, (crate, its) in enumerate(edits.items()) if at % of == (share[0] - 1) % of}
+    return {crate: its for at, (crate, its) in enumerate(edits.items())
+            if crate.name in whole or at % of == (share[0] - 1) % of}
+
+
+def changed_since(top: str, commit: str, names: Collection[str]) -> Collection[str]:
+    """Returns the names of the crates of a repository of which a file has changed since a commit, or all of these if
+    git can't tell."""
+    # (the tree may be another user's, as in a container)
+    words = ["git", "-c", f"safe.directory={top}", "-C", top, "diff", "--name-only", commit, "--", "crates"]
+    try:
+        ended = subprocess.run(words, stdout=subprocess.PIPE, stderr=subprocess.DEVNULL, text=True)
+    except OSError:
+        return names
+    return names if ended.returncode else {line.split("/")[1] for line in ended.stdout.splitlines()}
 
 
 def edits_of(rt: Any, crate: Any, parts: Sequence[str], are_twins: bool = False) -> tuple[list[Edit], list[str]]:
