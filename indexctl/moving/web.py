@@ -155,11 +155,12 @@ def exchange(index: Index, parts: urllib.parse.SplitResult, accept: str, most: i
         asked = urllib.parse.quote(parts.path or "/", SAFE) + (f"?{urllib.parse.quote(parts.query, SAFE)}"
                                                                if parts.query else "")
         connection.request("GET", asked, headers={**index.headers, "Accept": accept, "Accept-Encoding": "identity"})
-        reply = connection.getresponse()
-        if reply.status != 200:
-            index.leave()
-            return None, target_of(reply)
-        found = reply_of(reply, parts.geturl(), most)
+        # the reply of a server that then leaves takes the connection along, and nothing else closes that
+        with connection.getresponse() as reply:
+            if reply.status != 200:
+                index.leave()
+                return None, target_of(reply)
+            found = reply_of(reply, parts.geturl(), most)
         if is_late.is_set():
             # http.client takes the end of a connection for that of a head
             raise Cut
@@ -207,6 +208,4 @@ def reply_of(reply: http.client.HTTPResponse, url: str, most: int) -> Reply:
     if length is not None and size < length:
         raise http.client.IncompleteRead(b"", length - size)
     is_whole = length is not None or bool(reply.chunked)
-    # so that the connection can be used again
-    reply.close()
     return Reply(reply.headers.get_content_type(), b"".join(pieces), url, is_whole)

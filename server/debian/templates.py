@@ -6,7 +6,8 @@ from __future__ import annotations
 import sys
 
 TEMPLATED = ("index.service", "index-backup.service", "index-backup.timer", "index-health.service",
-             "index-health.timer", "index-metrics.service", "index-metrics.timer")
+             "index-health.timer", "index-metrics.service", "index-metrics.timer", "index-punch.path",
+             "index-punch.service", "index-punch.timer")
 # What is changed in a unit for one index: everywhere, and in the lines that say what is run. Index 8081 has the
 # database /var/lib/index/8081/index.db, and so on.
 EVERYWHERE = (
@@ -14,10 +15,14 @@ EVERYWHERE = (
     ("StateDirectory=index\n", "StateDirectory=index/%i\n"),
     ("WorkingDirectory=/var/lib/index\n", "WorkingDirectory=/var/lib/index/%i\n"),
     ("127.0.0.1:8080", "127.0.0.1:%i"),
+    ("StateDirectory=index-punch\n", "StateDirectory=index-punch/%i\n"),
+    ("index-backup.timer", "index-backup@%i.timer"),
+    ("index-punch.timer index-punch.path", "index-punch@%i.timer index-punch@%i.path"),
 )
 RUN = (
     ("/var/lib/index/", "/var/lib/index/%i/"),
     ("/var/backups/index", "/var/backups/index/%i"),
+    ("/var/lib/index-punch", "/var/lib/index-punch/%i"),
     ("index.service", "index@%i.service"),
     ("index-health.service", "index-health@%i.service"),
     ("/index.prom", "/index-%i.prom"),

@@ -40,7 +40,7 @@ class Watched:
         places = {"state": self.state, "folder": self.folder, "backups": f"{self.folder}/backups",
                   "changes": f"{self.folder}/changes.log", "db": f"{self.folder}/index.db",
                   "nginx": f"{self.folder}/conf.d/packages.conf", "place": f"{self.folder}/place",
-                  "failed": f"{self.folder}/failed"}
+                  "failed": f"{self.folder}/failed", "notes": f"{self.folder}/notes", "banned": f"{self.folder}/banned"}
         named = [word for name, path in places.items() for word in (f"--{name}", path)]
         return run_command([sys.executable, f"{BIN}/index-alarms", *named, *words],
                            PATH=self.path, **{"STATES": "", "STARTED": "", **setting})
@@ -100,6 +100,19 @@ def test_a_clock_that_was_set_is_told(watched):
     assert_ends(watched.run(), 9, "the clock went back by 7")
     # no look of a later time than now is kept
     assert_ends(watched.run(), 0)
+
+
+@catches("server/bin/index-alarms", "looks.punches(words.db, words.notes, words.banned or MARKS,",
+         "looks.punches(words.db, words.notes, (),")
+@pytest.mark.told("deleted or banned bytes stay in a volume")
+def test_what_was_banned_and_is_still_on_the_disk_is_told(watched):
+    watched.put("index.db-volume", "bytes")
+    watched.put("notes/last", json.dumps({"began": time.time() - 2 * HOUR, "above": 0, "kept": 0}))
+    assert_ends(watched.run(), 0)
+    watched.put("banned", "", 1.5 * HOUR)
+    assert_ends(watched.run(), 9, f"what was banned 90 minutes ago is still in {watched.folder}/index.db-volume")
+    watched.put("notes/last", json.dumps({"began": time.time(), "above": 0, "kept": 4096}))
+    assert_ends(watched.run(), 0, "4096 bytes of deleted files stay in", "has no holes")
 
 
 @pytest.mark.told("the index started again more than three times in ten minutes")
@@ -238,7 +251,7 @@ def test_looks_of_more_than_a_day_ago_are_forgotten(watched):
 @catches("server/bin/index-alarms", "    for kind in KINDS + OTHERS:", "    for kind in KINDS[:1]:")
 def test_a_drill_raises_each_alarm_once_and_says_who_was_told(watched):
     ended = watched.run("--drill", MAIL="ALARM_MAIL=you@example.org", STARTS=":")
-    kinds = ["disk", "clock", "restarts", "backup", "failed", "refused", "unlogged", "behind", "off", "health",
+    kinds = ["disk", "clock", "restarts", "backup", "punch", "failed", "refused", "unlogged", "behind", "off", "health",
              "certificate"]
     assert_ends(ended, 0, *(f"{kind}: told to the journal; mail to you@example.org\n" for kind in kinds))
     started = [it for it in called(f"{watched.folder}/bin").splitlines() if "start index-alarm@drill-" in it]

@@ -8,7 +8,7 @@ import time
 from contextlib import closing
 
 import pytest
-from support.places import BIN, SERVER
+from support.places import BIN, SERVER, TOP
 from support.planted import catches
 from support.running import run_command
 from support.server.expected import assert_ends
@@ -73,7 +73,7 @@ def test_a_copy_under_uploads_has_what_was_acknowledged_before_and_serves_it(
         looked(not missing, "the copy serves", missing)
 
 
-@catches("server/bin/index-backup", "if isinstance(between, bytes):", 'if between == before == b"none":')
+@catches("server/lib/package_index/copied.py", "if isinstance(between, bytes):", 'if between == before == b"none":')
 def test_a_copy_has_what_the_log_alone_has(index, backup, backups):
     accepted(index.claim("quiet"))
     accepted(index.upload("quiet", "quiet-1.0.tar.gz", b"new"))
@@ -124,8 +124,8 @@ class TestNothingIsLeft:
         assert_ends(backup(large, shell="ulimit -f 100000"), 1, "make room, or keep fewer")
         assert os.listdir(backups) == []
 
-    @catches("server/bin/index-backup", "copy(db, target)", '''os.system(f"cp '{db}' '{target}'")''',
-             ("server/bin/index-backup", 'copy(f"{db}-wal", f"{target}-wal")',
+    @catches("server/lib/package_index/copied.py", "copy(db, target)", '''os.system(f"cp '{db}' '{target}'")''',
+             ("server/lib/package_index/copied.py", 'copy(f"{db}-wal", f"{target}-wal")',
               '''os.system(f"cp '{db}-wal' '{target}-wal'")'''))
     @catches("server/bin/index-backup", "removed(part)", "pass")
     @pytest.mark.told("`index-backup` failed")
@@ -176,9 +176,10 @@ class TestAnIndexThatNeverPauses:
     def hurried(self, folder):
         """An index-backup with fewer trials."""
         shutil.copytree(SERVER, f"{folder}/server")
-        with open(f"{BIN}/index-backup") as text, open(f"{folder}/server/bin/index-backup", "w") as script:
-            script.write(replaced(text.read(), **{"TRIALS = 20\n": "TRIALS = 2\n"}))
-        return script.name
+        lines = "server/lib/package_index/copied.py"
+        with open(f"{TOP}/{lines}") as text, open(f"{folder}/{lines}", "w") as made:
+            made.write(replaced(text.read(), **{"TRIALS = 20\n": "TRIALS = 2\n"}))
+        return f"{folder}/server/bin/index-backup"
 
     @pytest.fixture
     def changing(self, program, folder):
@@ -199,7 +200,7 @@ class TestAnIndexThatNeverPauses:
         """What systemctl was asked."""
         return lambda: [line for line in called(f"{folder}/bin").splitlines() if line.startswith("systemctl ")]
 
-    @catches("server/bin/index-backup", "if before == between == state(db):", "if before:",
+    @catches("server/lib/package_index/copied.py", "if before == between == state(db):", "if before:",
              also=["TestAnIndexThatNeverPauses::test_with_a_unit_it_is_stopped_and_started"])
     def test_without_a_unit_there_is_no_copy(self, run, asked):
         assert_ends(run(), 1, "2 trials", "--unit")

@@ -92,7 +92,7 @@ def both(kept_index, named, folder):
         assert not one.nginx.errors() + two.nginx.errors()
 
 
-@catches("server/bin/index-uncache-follow", "fronts.add_line(list_beside(words.place), line)", "pass",
+@catches("server/bin/index-uncache-follow", 'fronts.add_line(beside(words.place, "removed"), line)', "pass",
          also=["test_one_that_was_off_serves_nothing_that_was_removed_meanwhile",
                "test_one_that_is_gone_is_told_and_its_list_is_read_once_it_is_back",
                "server/test_front_stops.py::test_stopped_at_each_step_a_second_run_does_all[of_a_log-9]"])

@@ -8,12 +8,12 @@ import sys
 import time
 
 import pytest
-from support.places import SERVER
+from support.places import BIN, SERVER
 from support.planted import catches
 from support.ports import free_port
 from support.running import run_command
 from support.server.expected import assert_ends
-from support.server.stand_ins import called, stand_ins
+from support.server.stand_ins import called, stand_ins, written
 from support.server.waits import wait_for
 from support.server.watched import HEALTH, Closes, Failed, look_at_health, unit
 from support.serving import Running
@@ -143,10 +143,44 @@ class TestStart:
         with Failed() as failed:
             assert_ends(run_command([*HEALTH, "--start", str(os.getpid()), failed.url]), 8, "500")
 
+    @catches("server/lib/package_index/start.py", "FIRST = 10.0", "FIRST = 100.0")
+    @pytest.mark.slow
+    def test_after_ten_seconds_it_says_how_far_the_start_is(self, folder):
+        """Of a database of 4 GiB, which is a hole."""
+        with open(f"{folder}/index.db", "wb") as made:
+            made.truncate(4 << 30)
+        with Running(["sleep", "300"]) as hung, Closes() as closes:
+            words = [*HEALTH, "--start", str(hung.process.pid), "--db", made.name, f"http://127.0.0.1:{closes.port}"]
+            with Running(words, stderr=subprocess.PIPE) as waits:
+                said = waits.process.stderr.readline()
+                hung.process.kill()
+                hung.process.wait()
+                waits.process.communicate(timeout=60)
+        assert re.match(rb"index-health: starting for 0:1\d(: \d+)?,? of about 24 s of a processor", said), said
+
+    @catches("server/bin/index-log", "        if in_journal():", "        if not in_journal():")
+    def test_the_journal_has_its_length_and_its_seconds_before_it_begins(self, program, index_file, folder):
+        """By the command of the unit, as systemd runs it."""
+        command = re.search(r"^ExecStart=((?:[^\\\n]|\\\n)*)$", unit("index.service"), re.M)[1]
+        given = {"/usr/local/bin/index-log": f"{BIN}/index-log", "/usr/local/bin/index": program,
+                 "/var/lib/index/index.db": index_file, "127.0.0.1:8080": "127.0.0.1:0"}
+        words = [given.get(it, it) for it in command.replace("\\\n", " ").split()]
+        with open(f"{folder}/journal", "w+") as journal:
+            at = os.fstat(journal.fileno())
+            with Running([sys.executable, *words], stdout=journal, stderr=journal,
+                         env={**os.environ, "JOURNAL_STREAM": f"{at.st_dev}:{at.st_ino}"}):
+                assert wait_for(lambda: "listening on" in written(journal.name))
+            said = written(journal.name).splitlines()
+        size = os.path.getsize(index_file) / (1 << 20)
+        line = (f"index-log: the index reads {size:.1f} MiB, and then answers: in about 1 s, and up to four times as "
+                "long on a busy machine")
+        assert line in said and said.index(line) < len(said) - 1 and said[-1].startswith("listening on"), said
+
     def test_the_unit_waits_and_not_for_ever(self):
         bound = re.search(r"^TimeoutStartSec=(\d+)min$", unit("index.service"), re.M)
         assert bound and int(bound[1]) >= 5
-        assert re.search(r"^ExecStartPost=\S*/index-health --start \$MAINPID http", unit("index.service"), re.M)
+        assert re.search(r"^ExecStartPost=\S*/index-health --start \$MAINPID --db /var/lib/index/index\.db http",
+                         unit("index.service"), re.M)
 
     def test_no_start_succeeds_by_an_answer_of_another_program_at_its_port(self, index):
         script = re.search(r"^ExecStartPre=/bin/bash -c '(.*?)'$", unit("index.service"), re.M | re.S)[1]

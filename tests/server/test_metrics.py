@@ -96,8 +96,10 @@ def test_each_alarm_asks_for_what_is_written(seen):
     with open(f"{SERVER}/prometheus/index-alarms.yml") as kept:
         asked = set(re.findall(r"\bindex_[a-z_]+", kept.read()))
     assert len(asked) > 5
-    # (that of a unit is written where one looks, and of a follower where one runs)
-    assert asked - {name.partition(",")[0] for name in seen} == {"index_health_status", "index_uncache_behind_seconds"}
+    # (that of a unit is written where one looks, of a follower where one runs, and of a volume where one lies)
+    assert asked - {name.partition(",")[0] for name in seen} == {
+        "index_health_status", "index_uncache_behind_seconds", "index_volume_bytes", "index_volume_copies_bytes",
+        "index_punch_kept_bytes", "index_punch_newest_seconds"}
 
 
 @catches("server/lib/package_index/counted.py", "grown.read_on(log, before.place, before.at,",

@@ -249,8 +249,10 @@ def test_an_upgrade_has_what_was_there(life):
 
 def test_an_upgrade_restarts_each_service_that_runs(life):
     restarted = re.findall(r"^systemctl try-restart (.*)", life.upgraded["asked"], re.M)
+    # (with the timer of backups begins what hangs on it, as that of index-punch)
     assert restarted == ["index.service index@*.service index-legacy-upload.service index-uncache-follow.service "
-                         "index-uncache-follow@*.service"], life.upgraded["asked"]
+                         "index-uncache-follow@*.service index-backup.timer "
+                         "index-backup@*.timer"], life.upgraded["asked"]
 
 
 def test_a_file_that_a_person_changed_stays_and_another_is_new(life):

@@ -58,7 +58,7 @@ def test_a_signal_at_each_step_leaves_what_was_or_what_was_asked_for_and_says_wh
 
 
 @catches("server/bin/index-restore", "if is_there(db) and kept.read() == known_as(copy):", "if not copy:")
-@catches("server/bin/index-restore", "if put_names_back(db, aside):", "if aside:")
+@catches("server/bin/index-restore", 'if put_names_back(db, aside, f"{beside}/index.db"):', "if aside:")
 @pytest.mark.slow
 @pytest.mark.timeout(1800)
 def test_killed_at_each_step_it_is_finished_or_begun_again_by_the_same_command(made, program, folder, looked):
@@ -97,7 +97,8 @@ def test_stopped_in_the_midst_of_its_copy_it_leaves_what_was_and_a_second_run_do
     assert restores.names() == ["kept"] and restores.is_served() and len(restores.left()) == 1
 
 
-@catches("server/bin/index-restore", 'with alone(folder, "index-restore"):', "if words.copy:")
+@catches("server/bin/index-restore",
+         'with alone(folder, AT_WORK if is_there(f"{db}{VOLUME}") else "index-restore"):', "if words.copy:")
 def test_of_two_at_once_the_second_is_refused_and_the_first_ends_well(restores):
     """The second begins when the first has copied and stops the index."""
     seconds, do = [], restores.manager.do
@@ -114,7 +115,7 @@ def test_of_two_at_once_the_second_is_refused_and_the_first_ends_well(restores):
     assert restores.names() == ["kept"] and restores.is_served()
 
 
-@catches("server/lib/package_index/exchange.py", "put_names_back(db, aside)", "pass")
+@catches("server/lib/package_index/exchange.py", "put_names_back(db, aside, made)", "pass")
 def test_a_rename_that_fails_leaves_the_old_database_and_its_log(restores):
     ended = restores.run(sys.executable, "-c", FAILING, "index.db")
     assert_ends(ended, 1, "No space left on device")

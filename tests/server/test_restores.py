@@ -83,9 +83,11 @@ class TestRefused:
     @catches("server/bin/index-restore", 'raise Refused(f"{copy}: {end.strerror}") from None',
              "raise Refused(copy) from None", case="a_path_that_is_not_there")
     @catches("server/bin/index-restore", "if not copy:", "if copy is None:", case="no_path")
-    @catches("server/bin/index-restore", 'run(f"{HERE}/index-verify", made)', "pass", case="a_copy_that_was_cut")
+    @catches("server/bin/index-restore", 'run(f"{HERE}/index-verify", *read, made)', "pass",
+             case="a_copy_that_was_cut")
     @catches("server/bin/index-restore", "if not is_database:", "if not copy:", case="a_text")
-    @catches("server/bin/index-restore", 'want_room(folder, size_of(words.copy, ("", "-wal", "-wal")))', "pass",
+    @catches("server/bin/index-restore",
+             'want_room(folder, size_of(words.copy, ("", "-wal", "-wal")) + volume_bytes(words.copy))', "pass",
              case="a_copy_for_which_there_is_no_room")
     @catches("server/bin/index-restore", "and newer > name:", "and newer < name:", case="an_older_copy")
     @catches("server/bin/index-restore", "if begun_at(copy) > now:", "if not copy:",
@@ -277,10 +279,10 @@ def logged(at, body):
 class TestDone:
     """A restore has what the copy has."""
 
-    @catches("server/bin/index-restore", "os.chmod(made, 0o600)",
+    @catches("server/bin/index-restore", "os.chmod(path, 0o600)",
              'run(sys.executable, "-c", "import sqlite3, sys; copy = sqlite3.connect(sys.argv[1]); '
-             '''copy.execute('DELETE FROM blobs'); copy.commit()", made); os.chmod(made, 0o600)''')
-    @catches("server/bin/index-restore", "os.chmod(made, 0o600)", "os.chmod(made, 0o644)")
+             '''copy.execute('DELETE FROM blobs'); copy.commit()", made); os.chmod(path, 0o600)''')
+    @catches("server/bin/index-restore", "os.chmod(path, 0o600)", "os.chmod(path, 0o644)")
     def test_what_the_copy_has_is_there_and_is_the_indexs_alone(self, by):
         assert_ends(by.run(by.copy), 0, "the index answers")
         assert by.before and by.missing(by.before) == []

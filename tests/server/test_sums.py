@@ -49,15 +49,15 @@ def rows_of(db):
         return sorted(database.iterdump())
 
 
-@catches("server/bin/index-reseal", "page[-SUM:] = sum_of_page(page)", "pass")
-@catches("server/bin/index-reseal", "page[-SUM:] = sum_of_page(page)", "pass",
+@catches("server/lib/package_index/page_sums.py", "page[-SUM:] = sum_of_page(page)", "pass")
+@catches("server/lib/package_index/page_sums.py", "page[-SUM:] = sum_of_page(page)", "pass",
          ("server/bin/index-reseal", 'run(f"{HERE}/index-verify", made)', "pass"),
          also=["test_a_write_by_sqlite_spoils_the_sums_and_they_are_made_again"])
 @catches("server/bin/index-reseal", "seal(made)",
          'run("sqlite3", made, "UPDATE names SET quota = quota + 1 WHERE state = 1"); seal(made)')
 @catches("server/bin/index-reseal", 'f".filectrl reserve_bytes {SUM}", f"VACUUM', 'f"VACUUM',
-         ("server/bin/index-reseal", "if head[FREE] != SUM:", "if head[FREE] > SUM:"),
-         ("server/bin/index-reseal", "page[-SUM:] = sum_of_page(page)", "pass"),
+         ("server/lib/package_index/page_sums.py", "if head[FREE] != SUM:", "if head[FREE] > SUM:"),
+         ("server/lib/package_index/page_sums.py", "page[-SUM:] = sum_of_page(page)", "pass"),
          also=["test_each_flipped_bit_of_the_new_file_is_refused_as_damage",
                "test_a_write_by_sqlite_spoils_the_sums_and_they_are_made_again"])
 def test_the_new_file_has_the_same_rows_and_room_for_sums_and_the_old_one_is_untouched(old, reseal, folder, check):

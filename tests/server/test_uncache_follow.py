@@ -226,6 +226,30 @@ def test_a_full_disk_keeps_nothing_in_the_cache_and_is_told_before_the_place_is_
     assert written == [(f"{tmp_path}/removed", lines[0])]
 
 
+@catches("server/bin/index-uncache-follow", 'json.loads(line)["method"] != "DELETE"',
+         'json.loads(line)["method"] == "DELETE"')
+@catches("server/bin/index-uncache-follow",
+         """            put_whole(beside(words.place, "banned"), f"{time.time()}\\n")""", "            pass")
+@pytest.mark.parametrize("front", [None, "192.0.2.1"])
+@pytest.mark.parametrize("change, is_banned", [
+    ({"method": "POST", "path": "/requests", "body": '{"do":"ban_file","file":"frob-1.zip"}'}, True),
+    ({"method": "POST", "path": "/requests", "body": '{"do":"prohibit","name":"frob"}'}, True),
+    ({"method": "DELETE", "path": "/files/frob/frob-1.zip", "body": ""}, False),
+    ({"method": "POST", "path": "/requests", "body": '{"do":"claim","name":"frob"}'}, False)])
+def test_each_ban_and_prohibition_is_marked_for_index_punch_and_no_delete(monkeypatch, tmp_path, change, is_banned,
+                                                                          front):
+    """Also one through another nginx, beside the place of that run. A second one writes another file."""
+    line, found = json.dumps({"status": 200, **change}), []
+    for name in ("lines_from", "lines_to_read"):
+        monkeypatch.setattr(FOLLOW, name, lambda *_: iter([(line, followed.Place(1, 9, "0"))]))
+    monkeypatch.setattr(FOLLOW, "take_out", lambda *_: found.append(
+        os.path.exists(tmp_path / "banned") and os.stat(tmp_path / "banned").st_mtime_ns))
+    for _ in range(2):
+        FOLLOW.follow(FOLLOW.argparse.Namespace(place=f"{tmp_path}/place", log="x", cache="y", again=5, front=front))
+    assert os.path.exists(tmp_path / "banned") == is_banned
+    assert not is_banned or len(found) == 2 and 0 < found[0] < found[1]
+
+
 @pytest.mark.parametrize("status, method, path, body, words", [
     (200, "DELETE", "/files/frob/frob-1%2B2.zip", "", ["frob", "frob-1+2.zip"]),
     (404, "DELETE", "/files/frob/frob-1.zip", "", []),

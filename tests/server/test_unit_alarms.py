@@ -92,6 +92,7 @@ def test_a_late_backup_is_told_where_the_index_is(monkeypatch, tmp_path, is_shar
     monkeypatch.setattr(two_machines, "FOLDER", "/" if is_mounted else str(tmp_path))
     monkeypatch.setattr(ALARMS, "off", lambda _: [])
     words = types.SimpleNamespace(backups=str(tmp_path), changes=f"{tmp_path}/log", nginx=f"{tmp_path}/none",
-                                  place=f"{tmp_path}/place")
+                                  place=f"{tmp_path}/place", db=f"{tmp_path}/index.db", notes=f"{tmp_path}/notes",
+                                  banned=[])
     found = ALARMS.alarms(words, ALARMS.State(NOW - 9 * DAY, [], {}), look(NOW))
     assert [it.kind for it in found] == kinds

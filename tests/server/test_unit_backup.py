@@ -6,7 +6,7 @@ import types
 
 import pytest
 from support.library import ends as library_ends
-from support.library import disk, exchange
+from support.library import copied, disk, exchange
 from support.places import TOP
 from support.planted import catches
 from support.programs import program_of
@@ -28,15 +28,15 @@ def test_the_state_of_a_database_is_the_header_of_its_log_or_its_time(tmp_path):
     db = tmp_path / "index.db"
     db.write_bytes(b"x")
     os.utime(db, ns=(5, 7))
-    assert BACKUP.state(str(db)) == 7
+    assert copied.state(str(db)) == 7
     (tmp_path / "index.db-wal").write_bytes(bytes(range(40)))
-    assert BACKUP.state(str(db)) == bytes(range(32))
+    assert copied.state(str(db)) == bytes(range(32))
     (tmp_path / "index.db-wal").write_bytes(b"")
-    assert BACKUP.state(str(db)) == 7
+    assert copied.state(str(db)) == 7
 
 
 def test_pauses_between_trials_grow_to_five_seconds():
-    assert [BACKUP.pause_after(it) for it in (1, 2, 49, 50, 51, 1000)] == pytest.approx([0.1, 0.2, 4.9, 5, 5, 5])
+    assert [copied.pause_after(it) for it in (1, 2, 49, 50, 51, 1000)] == pytest.approx([0.1, 0.2, 4.9, 5, 5, 5])
 
 
 class World:
@@ -48,13 +48,13 @@ class World:
             with open(self.db + end, "wb") as made:
                 made.write(data)
         states, self.pauses = iter(states), []
-        monkeypatch.setattr(BACKUP, "state", lambda db: next(states) if db == self.db else None)
-        with_time(monkeypatch, BACKUP, sleep=self.pauses.append)
+        monkeypatch.setattr(copied, "state", lambda db: next(states) if db == self.db else None)
+        with_time(monkeypatch, copied, sleep=self.pauses.append)
 
 
 def test_a_copy_is_of_one_moment(tmp_path, monkeypatch):
     other = World(tmp_path, monkeypatch, [b"1", b"1", b"2", b"2", b"3", b"3", b"3", b"3", b"3"])
-    assert BACKUP.copied(other.db, other.target) == 3
+    assert copied.copied_whole(other.db, other.target) == 3
     assert other.pauses == pytest.approx([0.1, 0.2])
     assert (tmp_path / "copy").read_bytes() == b"database" and (tmp_path / "copy-wal").read_bytes() == b"log"
 
@@ -63,13 +63,13 @@ def test_a_log_that_is_empty_is_not_copied_and_an_old_copy_of_one_goes(tmp_path,
     other = World(tmp_path, monkeypatch, [7, 7, 7])
     with open(f"{other.target}-wal", "wb") as left:
         left.write(b"of before")
-    assert BACKUP.copied(other.db, other.target) == 1
+    assert copied.copied_whole(other.db, other.target) == 1
     assert not os.path.exists(f"{other.target}-wal") and other.pauses == []
 
 
 def test_after_twenty_trials_no_copy_was_made(tmp_path, monkeypatch):
     other = World(tmp_path, monkeypatch, itertools.count(1))
-    assert BACKUP.copied(other.db, other.target) is None
+    assert copied.copied_whole(other.db, other.target) is None
     assert len(other.pauses) == 20
 
 
@@ -79,7 +79,7 @@ def test_after_twenty_trials_no_copy_was_made(tmp_path, monkeypatch):
     ([None, None], "one.service", None, [("systemctl", "stop", "one.service"), ("systemctl", "start", "one.service")])])
 def test_a_unit_is_stopped_only_if_nothing_else_works(monkeypatch, trials, unit, given, asked):
     left = list(trials)
-    monkeypatch.setattr(BACKUP, "copied", lambda *_: left.pop(0))
+    monkeypatch.setattr(BACKUP, "copied_whole", lambda *_: left.pop(0))
     run = calls(monkeypatch, BACKUP, "run")
     if given:
         assert BACKUP.copied_somehow("db", "target", unit) == given
@@ -91,7 +91,7 @@ def test_a_unit_is_stopped_only_if_nothing_else_works(monkeypatch, trials, unit,
 
 def test_a_unit_is_started_again_if_the_copy_fails(monkeypatch):
     left = [None]
-    monkeypatch.setattr(BACKUP, "copied", lambda *_: left.pop(0))
+    monkeypatch.setattr(BACKUP, "copied_whole", lambda *_: left.pop(0))
     run = calls(monkeypatch, BACKUP, "run")
     with pytest.raises(IndexError):
         BACKUP.copied_somehow("db", "target", "one.service")
@@ -188,10 +188,10 @@ def test_a_backup_that_fails_leaves_nothing_and_takes_no_old_copy_away(tmp_path,
 def test_room_is_wanted_for_the_log_twice_before_anything_is_copied(tmp_path, monkeypatch):
     (tmp_path / "index.db-wal").write_bytes(bytes(50))
     asked = calls(monkeypatch, BACKUP, "want_room", raises(Refused("no room")))
-    copied = calls(monkeypatch, BACKUP, "copy")
+    made = calls(monkeypatch, copied, "copy")
     with pytest.raises(Refused, match="no room"):
         backed(tmp_path, monkeypatch)
-    assert asked == [(str(tmp_path / "copies"), 8 + 2 * 50, "make room, or keep fewer copies")] and not copied
+    assert asked == [(str(tmp_path / "copies"), 8 + 2 * 50, "make room, or keep fewer copies")] and not made
 
 
 def test_a_database_that_is_not_there_is_told(tmp_path, monkeypatch, capsys):
@@ -199,7 +199,8 @@ def test_a_database_that_is_not_there_is_told(tmp_path, monkeypatch, capsys):
     assert (status, out) == (1, "") and "index-backup: " in err and "none.db" in err
 
 
-@catches("server/bin/index-backup", '    with alone(folder, "index-backup"):', "    if folder:")
+@catches("server/bin/index-backup", 'with alone(folder, "index-backup"), alone_with_volume(db, folder):',
+         "with alone_with_volume(db, folder):")
 def test_a_second_backup_at_the_same_time_is_refused_and_takes_no_part_away(tmp_path, monkeypatch, capsys):
     """Two that began in one second had one name: the first could keep a copy without its log."""
     part = tmp_path / "index-20260101T000000Z.part-wal"
@@ -209,7 +210,7 @@ def test_a_second_backup_at_the_same_time_is_refused_and_takes_no_part_away(tmp_
     assert status == 1 and f"{tmp_path}: another index-backup is at work there" in err and part.exists()
 
 
-@catches("server/lib/package_index/exchange.py", "        except BlockingIOError:", "        except OSError:",
+@catches("server/lib/package_index/exchange.py", "    except BlockingIOError:", "    except OSError:",
          also=["server/test_unit_reseal.py::test_a_folder_that_can_t_be_locked_takes_a_new_file_all_the_same"])
 @pytest.mark.parametrize("end", [OSError(9, "a folder on NFS"), OSError(38, "no locks")])
 def test_a_folder_that_can_t_be_locked_takes_copies_all_the_same(tmp_path, monkeypatch, end):
@@ -224,7 +225,8 @@ def test_the_words_of_a_backup(monkeypatch, capsys):
     assert ends(BACKUP, monkeypatch, capsys, "db", "folder/")[:2] == (0, "a line\n")
     assert os.umask(before) == 0o077
     ends(BACKUP, monkeypatch, capsys, "db", "/", "1", "--unit", "one.service")
-    assert asked == [("db", "folder", 14, None), ("db", "/", 1, "one.service")]
+    db = os.path.realpath("db")
+    assert asked == [(db, "folder", 14, None), (db, "/", 1, "one.service")]
     status, _, err = ends(BACKUP, monkeypatch, capsys, "db", "folder", "0")
     assert status == 2 and "KEEP is 1 or more" in err
     os.umask(before)

@@ -89,6 +89,15 @@ def test_a_start_is_waited_for_and_an_answer_that_comes_too_late_is_none(monkeyp
     assert clock.slept == [0.2] * (len(looks) - 1) and clock.asked == [("x:1", 60)] * len(looks)
 
 
+@catches("server/bin/index-health", 'text = start.how_far() if start else ""', 'text = ""')
+def test_how_far_a_start_is_is_said_while_it_goes_on(monkeypatch, capsys):
+    Clock(monkeypatch, ABSENT, SILENT, ABSENT, WELL)
+    monkeypatch.setattr(HEALTH, "is_there", lambda _: True)
+    said = ["", "it is half done", ""]
+    assert HEALTH.started("x:1", 60, 7, types.SimpleNamespace(how_far=lambda: said.pop(0))) == WELL and not said
+    assert capsys.readouterr().err == "index-health: it is half done\n"
+
+
 def test_a_start_that_ended_is_told(monkeypatch):
     clock, there = Clock(monkeypatch, ABSENT, ABSENT), [True, True, False]
     monkeypatch.setattr(HEALTH, "is_there", lambda _: there.pop(0))
@@ -100,9 +109,10 @@ def test_the_words_of_a_look_and_its_status(monkeypatch, capsys):
     assert ends(HEALTH, monkeypatch, capsys) == (0, "", "")
     words = ["--start", "7", "--patience", "2.5", "http://x:9/y"]
     assert ends(HEALTH, monkeypatch, capsys, *words) == (8, "", "index-health: 500 Store\n")
-    assert (looked, started) == ([("127.0.0.1:8080", 60)], [("x:9", 2.5, 7)])
+    assert (looked, started) == ([("127.0.0.1:8080", 60)], [("x:9", 2.5, 7, None)])
     ends(HEALTH, monkeypatch, capsys, "--start", "0", "http://x:9")
-    assert started[1] == ("x:9", 60, 0)
+    assert started[1] == ("x:9", 60, 0, None)
+    assert ends(HEALTH, monkeypatch, capsys, "--db", "x.db")[0] == 2
     assert ends(HEALTH, monkeypatch, capsys, "a", "b")[0] == 2
 
 

@@ -4,7 +4,7 @@ import json
 import os
 
 import pytest
-from support.library import followed, looks, tallies
+from support.library import followed, looks, notes, tallies
 from support.planted import catches
 
 NOW, HOUR, DAY, GIB = 2_000_000_000.0, 3600, 86400, 1 << 30
@@ -104,6 +104,58 @@ def test_an_index_that_is_new_has_a_day_for_its_first_backup(tmp_path):
     assert late(tmp_path, 26) == [] and late(tmp_path / "none", 26) == []
     assert late(tmp_path, 26.1) == [f"no backup was made in {tmp_path} for 26 hours"]
     assert late(tmp_path / "none", 30) == [f"no backup was made in {tmp_path}/none for 30 hours"]
+
+
+def punched(folder, hours=0.0, kept=0, own=""):
+    """Notes of a run so long ago, of an index with a volume."""
+    for it in ("var", "notes"):
+        (folder / it / own).mkdir(parents=True, exist_ok=True)
+    (folder / "var" / own / "index.db-volume").touch()
+    notes.keep_last(str(folder / "notes" / own), notes.Last(NOW - hours * HOUR, 5, kept))
+
+
+def of_punches(folder, banned=None, begun=200.0):
+    """What is told, if something was banned so many hours ago."""
+    if banned is not None:
+        (folder / "banned").touch()
+        os.utime(folder / "banned", (NOW - banned * HOUR,) * 2)
+    marks = [f"{folder}/none", f"{folder}/banned"]
+    return list(looks.punches(f"{folder}/var/index.db", f"{folder}/notes", marks, NOW, NOW - begun * HOUR))
+
+
+@catches("server/lib/package_index/looks.py", "        if began < banned < now - BANNED:",
+         "        if banned < now - BANNED:")
+@catches("server/lib/package_index/looks.py", "PUNCH_HOURS, BANNED = 50, 3600", "PUNCH_HOURS, BANNED = 51, 3700",
+         case="50.1-None-0-hours", also=["test_a_volume_is_punched_each_night_and_after_a_ban[2-1.01-0-banned]"])
+@pytest.mark.parametrize("hours, banned, kept, said", [
+    (49.9, None, 0, None), (50.1, None, 0, "hours"), (2, 1.01, 0, "banned"), (2, 0.99, 0, None), (1, 3, 0, None),
+    (1, None, 4096, "holes"), (60, 2, 4096, "banned"), (-1, None, 0, "200 hours")])
+def test_a_volume_is_punched_each_night_and_after_a_ban(tmp_path, hours, banned, kept, said):
+    punched(tmp_path, hours, kept)
+    text = {None: [], "hours": ["var/index.db-volume was not punched for 50 hours: systemctl status 'index-punch*'"],
+            "200 hours": ["var/index.db-volume was not punched for 200 hours: systemctl status 'index-punch*'"],
+            "banned": [f"what was banned {60 * (banned or 0):.0f} minutes ago is still in "],
+            "holes": ["4096 bytes of deleted files stay in "]}[said]
+    found = of_punches(tmp_path, banned)
+    assert len(found) == len(text) and all(it in each for it, each in zip(text, found)), found
+
+
+@catches("server/lib/package_index/looks.py", "        if not os.path.exists(volume):", "        if not volume:")
+def test_without_a_volume_nothing_is_punched_and_a_new_one_has_two_nights(tmp_path):
+    punched(tmp_path, 90)
+    (tmp_path / "notes/last").unlink()
+    assert len(of_punches(tmp_path, begun=51)) == 1 and of_punches(tmp_path, begun=49) == []
+    (tmp_path / "var/index.db-volume").unlink()
+    assert of_punches(tmp_path, 5) == [] == list(looks.punches("/none/index.db", "/none", [], NOW, 0))
+
+
+@catches("server/lib/package_index/looks.py", 'for own in ("", *ports):', 'for own in ("", *ports[1:]):')
+def test_of_several_indexes_each_volume_is_punched(tmp_path):
+    punched(tmp_path, 1)
+    for port, hours in (("8081", 60), ("8082", 1), ("8083", 70)):
+        punched(tmp_path, hours, own=port)
+    assert [it.partition(" was")[0] for it in of_punches(tmp_path)] == [
+        f"{tmp_path}/var/{port}/index.db-volume" for port in ("8081", "8083")]
 
 
 @catches("server/lib/package_index/looks.py", 'return own + [f"{backups}/{it}" for it in sorted(there | ports)]',

@@ -8,7 +8,7 @@ import threading
 import types
 
 import pytest
-from support.library import exposition
+from support.library import exposition, notes
 from support.planted import catches
 from support.programs import program_of
 from support.unit import calls, ends, with_time
@@ -83,6 +83,35 @@ def test_the_newest_copy_is_of_no_clock_that_was_ahead_and_of_no_later_touch(tmp
         os.utime(tmp_path / path, (moment, moment))
     with_time(monkeypatch, METRICS, time=lambda: 9_000)
     assert told(METRICS.files("/none", str(tmp_path)))["index_backup_newest_seconds"] == at
+
+
+@catches("server/bin/index-metrics", "if not os.path.islink(it)}", "if it}")
+def test_a_volume_and_its_copies_count_by_what_they_take_and_a_link_not_at_all(tmp_path):
+    db, backups = tmp_path / "index.db", tmp_path / "backups"
+    backups.mkdir()
+    db.touch()
+    assert not [it for it in told(METRICS.files(str(db), str(backups))) if "volume" in it]
+    volume, copy = tmp_path / "index.db-volume", backups / "index-20260101T000000Z.volume"
+    for path, blocks in ((volume, 3), (copy, 2)):
+        with open(path, "wb") as made:
+            made.write(bytes(4096 * blocks))
+            made.truncate(1 << 40)
+    (backups / "index-20260102T000000Z.db").write_bytes(bytes(10))
+    os.symlink(copy.name, backups / "index-20260102T000000Z.db-volume")
+    taken = [os.stat(it).st_blocks * 512 for it in (volume, copy)]
+    found = told(METRICS.files(str(db), str(backups)))
+    assert [found["index_volume_bytes"], found["index_volume_copies_bytes"]] == taken and 0 < max(taken) < 1 << 20
+    assert found["index_backups_bytes"] == 10 + taken[1]
+    os.remove(volume)
+    assert told(METRICS.files(str(db), str(backups)))["index_volume_bytes"] == 0
+
+
+@catches("server/bin/index-metrics", "    if last:\n", "    if not last:\n")
+def test_what_index_punch_noted_is_told_and_nothing_if_it_never_ran(tmp_path):
+    assert told(METRICS.punches(str(tmp_path))) == {}
+    notes.keep_last(str(tmp_path), notes.Last(5.5, 7, 9))
+    assert told(METRICS.punches(str(tmp_path))) == {
+        "index_punch_newest_seconds": 5, "index_punch_above_bytes": 7, "index_punch_kept_bytes": 9}
 
 
 @catches("server/lib/package_index/copies.py", "FROM names WHERE state = 1", "FROM names WHERE state > 0")

@@ -26,7 +26,8 @@ def test_a_program_runs_by_a_link_and_tells_its_use(tmp_path, name):
 @pytest.mark.parametrize("name, told", [
     ("index-alarms", ["/var/lib/index-alarms/state.json", "/var/backups/index", "/var/backups/index",
                       "/var/lib/index/index.db", "/etc/nginx/conf.d/packages.conf",
-                      "/var/lib/index-uncache/place", "/run/index-alarm"]),
+                      "/var/lib/index-uncache/place", "/var/lib/index-punch", "/var/lib/index-fronts/banned",
+                      "/run/index-alarm"]),
     ("index-uncache-follow", ["/var/cache/nginx/index-files",
                               "/var/lib/index-uncache/place", "/etc/nginx/conf.d/packages.conf"])])
 def test_the_use_ends_its_lines_by_what_is_taken_if_nothing_is_given(name, told):
@@ -35,7 +36,8 @@ def test_the_use_ends_its_lines_by_what_is_taken_if_nothing_is_given(name, told)
     assert [it.split()[-1] for it in ended.stdout.splitlines() if " /" in it] == told, ended.stdout
 
 
-@pytest.mark.parametrize("name", ["index-backup", "index-reseal", "index-restore", "index-verify"])
+@pytest.mark.parametrize("name", ["index-backup", "index-migrate", "index-reseal", "index-restore",
+                                  "index-verify"])
 def test_a_program_finds_the_others_beside_its_own_file(tmp_path, name):
     os.symlink(f"{BIN}/{name}", tmp_path / name)
     assert runpy.run_path(str(tmp_path / name))["HERE"] == os.path.realpath(BIN)
@@ -55,11 +57,16 @@ MISTAKES = [
     ("index-backup", ["{file}", "{file}"], 1, "Not a directory"),
     ("index-health", ["none"], 2, "none is not an address such as http://127.0.0.1:8080"),
     ("index-health", ["http://127.0.0.1:99999"], 2, "is not an address"),
+    ("index-punch", ["{folder}/none", "{folder}", "--notes", "{folder}/notes"], 1, "{folder}/none: no such file"),
+    ("index-punch", ["{folder}/none/db", "{folder}", "--notes", "{folder}/notes"], 1, "No such file or directory"),
+    ("index-punch", ["{file}", "{folder}", "--notes", "{file}"], 1, "File exists"),
     ("index-log", ["{folder}"], 1, "{folder}: a folder, and not a database"),
     ("index-log", ["{file}", "--"], 2, "nothing is lost."),
     ("index-log", ["{file}", "--", "{folder}/none"], 1, "index-log: {folder}/none: No such file or directory"),
     ("index-metrics", ["{file}", "{folder}", "--url", "none"], 2, "none is not an address"),
     ("index-metrics", ["{file}", "{folder}", "--url", "http://127.0.0.1:1", "--out", "{folder}"], 1, "Is a directory"),
+    ("index-migrate", ["--volume", "{folder}/none/index.db"], 1, "no such folder"),
+    ("index-migrate", ["{file}"], 2, "one of the arguments --volume --one-file is required"),
     ("index-publishers", ["{folder}/none", "{folder}"], 1, "No such file or directory"),
     ("index-publishers", ["{file}", "{folder}"], 1, "{file}, line 1: a section such as `[publisher frob]` has to come"),
     ("index-publishers", ["{file}"], 2, "python3-cryptography."),

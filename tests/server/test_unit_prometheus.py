@@ -31,6 +31,8 @@ WELL = {
     f"index_uncache_behind_seconds{{{PORT}}}": f"0x{LAST}",
     f"index_backup_newest_seconds{{{PORT}}}": f"0+60x{LAST}",
     f"index_backup_parts{{{PORT}}}": f"0x{LAST}",
+    f"index_punch_newest_seconds{{{PORT}}}": f"0+60x{LAST}",
+    f"index_punch_kept_bytes{{{PORT}}}": f"0x{LAST}",
     f'index_room_bytes{{{PORT},of="database"}}': f"9000000000x{LAST}",
     f'index_room_bytes{{{PORT},of="backups"}}': f"9000000000x{LAST}",
     f"index_database_bytes{{{PORT}}}": f"5000000000x{LAST}",
@@ -58,10 +60,20 @@ CASES = {
     "behind": ({f"index_uncache_behind_seconds{{{PORT}}}": f"0x{LAST - 3} 121x3"}, [("IndexUncacheBehind", {})]),
     "no copy": ({f"index_backup_newest_seconds{{{PORT}}}": f"{-26 * 3600}x{LAST}"}, [("IndexBackupOld", {})]),
     "a copy that failed": ({f"index_backup_parts{{{PORT}}}": f"1x{LAST}"}, [("IndexBackupOld", {})]),
+    "not punched": ({f"index_punch_newest_seconds{{{PORT}}}": f"{-50 * 3600}x{LAST}"}, [("IndexPunchOld", {})]),
+    "no holes": ({f"index_punch_kept_bytes{{{PORT}}}": f"4096x{LAST}"}, [("IndexPunchOld", {})]),
     "little room": ({f'index_room_bytes{{{PORT},of="nginx"}}': f"3900000000x{LAST}"},
                     [("IndexDiskFull", {"of": "nginx"})]),
     "no room for a copy": ({f'index_room_bytes{{{PORT},of="backups"}}': f"5900000000x{LAST}"},
                            [("IndexDiskFull", {"of": "backups"})]),
+    "no room for the first copy of a volume": (
+        {f'index_room_bytes{{{PORT},of="backups"}}': f"11900000000x{LAST}",
+         f"index_volume_bytes{{{PORT}}}": f"10000000000x{LAST}", f"index_volume_copies_bytes{{{PORT}}}": f"0x{LAST}"},
+        [("IndexDiskFull", {"of": "backups"})]),
+    "room for what is added to it": (
+        {f'index_room_bytes{{{PORT},of="backups"}}': f"11900000000x{LAST}",
+         f"index_volume_bytes{{{PORT}}}": f"10000000000x{LAST}",
+         f"index_volume_copies_bytes{{{PORT}}}": f"9000000000x{LAST}"}, []),
     "certificate": ({f"index_certificate_end_seconds{{{PORT}}}": f"{14 * 86400}x{LAST}"},
                     [("IndexCertificateEnds", {})]),
     "damaged": ({f"index_damaged_logs{{{PORT}}}": f"1x{LAST}"}, [("IndexLogDamaged", {})]),
@@ -113,7 +125,9 @@ def written(tmp_path):
     (tmp_path / "changes.log").write_text(json.dumps(log) + "\n" + json.dumps({**log, "status": 404}) + "\n")
     (tmp_path / "index.db").write_text("x")
     words = [tmp_path / "index.db", tmp_path / "copies", "--url", "http://127.0.0.1:1", "--state", tmp_path / "state",
-             "--changes", tmp_path / "changes.log", "--bodies", tmp_path / "bodies", "--place", tmp_path / "none"]
+             "--changes", tmp_path / "changes.log", "--bodies", tmp_path / "bodies", "--place", tmp_path / "none",
+             "--punched", tmp_path]
+    (tmp_path / "last").write_text('{"began": 1234.5, "above": 7, "kept": 9}')
     ended = run_command([sys.executable, f"{BIN}/index-metrics", *map(str, words)])
     assert ended.returncode == 0
     return ended.stdout
@@ -138,6 +152,12 @@ def test_what_is_written_keeps_to_the_format(written):
     assert {labels: value for labels, value in counts.items() if value} == {
         'port="1",kind="upload",status="200"': 1, 'port="1",kind="upload",status="404"': 1}
     assert counts['port="1",kind="claim",status="500"'] == 0
+
+
+@catches("server/bin/index-metrics", "    yield from punches(words.punched)\n", "")
+def test_what_was_punched_is_written(written):
+    values = {name: value for name, (_, [(_, _, value), *_]) in families(written).items() if "punch" in name}
+    assert values == {"index_punch_newest_seconds": 1234, "index_punch_above_bytes": 7, "index_punch_kept_bytes": 9}
 
 
 def names_in(text):

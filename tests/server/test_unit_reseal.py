@@ -10,6 +10,7 @@ from support.library import ends as library_ends
 from support.library import exchange
 from support.planted import catches
 from support.programs import program_of
+from support.server.pairs import make_pair
 from support.sqlite_logs import summed
 from support.unit import calls, ends, raises
 
@@ -116,10 +117,20 @@ def test_what_sqlite_finds_is_refused(tmp_path, monkeypatch):
     world, said = World(tmp_path, monkeypatch), [("row 1 missing",)] * 9
     rows = types.SimpleNamespace(fetchall=lambda: said)
     stands = types.SimpleNamespace(close=lambda: None, execute=lambda text: rows)
+    monkeypatch.setattr(RESEAL, "has_places", lambda db: False)
     monkeypatch.setattr(RESEAL.sqlite3, "connect", lambda path: {f"{world.part}/copy.db": stands}[path])
     with pytest.raises(Refused) as refused:
         RESEAL.make(str(world.db), str(world.new), str(world.part))
     assert str(refused.value) == f"integrity_check: {said[:3]}" and not world.new.exists()
+
+
+@catches("server/bin/index-reseal", "if has_places(db):", "if not db:")
+def test_a_database_with_a_volume_is_refused_at_once(tmp_path, monkeypatch):
+    """The new file would have no volume beside it, and index-restore would refuse it."""
+    world = World(tmp_path, monkeypatch)
+    with pytest.raises(Refused, match="has a volume: move its bytes back .index-migrate --one-file.*keeps the sums"):
+        RESEAL.make(make_pair(f"{tmp_path}/pair.db"), str(world.new), str(world.part))
+    assert not world.asked and os.listdir(world.part) == []
 
 
 @catches("server/bin/index-reseal", "    at = own(path)", "    at = path")

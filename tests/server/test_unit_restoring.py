@@ -9,6 +9,7 @@ import types
 
 import pytest
 from support.library import ends as library_ends
+from support.library import exchange
 from support.library import units as library_units
 from support.planted import catches
 from support.programs import program_of
@@ -75,12 +76,12 @@ def test_a_copy_is_tested_before_the_units_stop_and_caches_are_emptied_last(tmp_
     assert not signal.pthread_sigmask(signal.SIG_BLOCK, []) & set(library_ends.SIGNALS)
 
 
-@catches("server/bin/index-restore", '        if not is_there(f"{folder}/before-{stamp}"):', "        if stamp:")
+@catches("server/lib/package_index/exchange.py", 'if not is_there(f"{folder}/before-{stamp}"):', "if stamp:")
 def test_of_two_restores_within_a_second_the_later_one_waits_for_a_name(tmp_path, monkeypatch):
     """The folder of what the first put aside would be that of the second."""
     world, now = World(tmp_path, monkeypatch), [1_000_000_000.0]
-    with_time(monkeypatch, RESTORE, gmtime=lambda: time.gmtime(now[0]))
-    with_time(monkeypatch, RESTORE, sleep=lambda seconds: now.append(now.pop() + seconds))
+    with_time(monkeypatch, exchange, gmtime=lambda: time.gmtime(now[0]))
+    with_time(monkeypatch, exchange, sleep=lambda seconds: now.append(now.pop() + seconds))
     for _ in range(2):
         world.restored()
     assert sorted(it.name for it in world.folder.glob("before-*")) == ["before-20010909T014640Z",

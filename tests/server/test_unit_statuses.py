@@ -44,6 +44,19 @@ def test_what_the_alarms_tell_is_always_sent():
     assert texts_in("bin/index-alarm", r'"index-alarms\.service (\d+)"') == [str(ALARMS.ALARM)]
 
 
+@catches("server/bin/index-alarms", 'MARKS = "/var/lib/index-uncache/banned",', 'MARKS = "/var/lib/index-uncache/ban",')
+def test_a_ban_is_marked_where_all_that_wait_for_one_look():
+    """The follower's place has its folder; the path begins a punch, that begins again by it, and an alarm compares."""
+    watched = texts_in("systemd/index-punch.path", "^PathChanged=(.*)$")
+    places = texts_in("bin/index-uncache-follow", r'"--place", metavar="FILE", default="(.*)/place"')
+    places += texts_in("systemd/index-uncache-follow@.service", "^ExecStart=.* --place (.*)/%i$")
+    assert watched == [f"{it}/banned" for it in places] == [*ALARMS.MARKS]
+    assert texts_in("systemd/index-punch.service", r"--mark (\S+)") == watched
+    notes = texts_in("systemd/index-punch.service", r"--notes (\S+)")
+    assert notes == texts_in("systemd/index-metrics.service", r"--punched (\S+)") == ["/var/lib/index-punch"]
+    assert texts_in("bin/index-alarms", r'"--notes", metavar="FOLDER", default="([^"]*)"') == notes
+
+
 def test_no_two_of_these_statuses_are_one():
     """And none that Python (1, 2), a shell (126 and more) or systemd (200 and more) has a meaning for."""
     of_health = [HEALTH.WELL, HEALTH.RESTART, HEALTH.ABSENT, HEALTH.LITTLE_ROOM, HEALTH.FRONT, HEALTH.BOTH]

@@ -341,12 +341,12 @@ def test_the_command_for_the_power_switch_fails_until_it_is_written():
 
 
 def test_drbd_reads_the_resource_and_finds_in_it_what_keeps_uploads_and_names(folder):
-    """By drbdadm for DRBD 8.4, the version in Debian's kernel."""
+    """By drbdadm for DRBD 8.4, the version in Debian's kernel, on a machine that it takes for one of the two."""
     want_command("drbdadm", "drbd-utils")
     with open(f"{folder}/conf", "w") as made, open(f"{FILES}/index.res") as kept:
         made.write(f'global {{ usage-count no; }}\n{kept.read()}')
-    ended = run_command(["unshare", "-u", "sh", "-c", f"hostname one && drbdadm -c {folder}/conf dump index"],
-                        DRBD_DRIVER_VERSION_OVERRIDE="8.4.11")
+    ended = run_command(["drbdadm", "-c", f"{folder}/conf", "dump", "index"], DRBD_DRIVER_VERSION_OVERRIDE="8.4.11",
+                        __DRBD_NODE__="one")
     said = " ".join(ended.stdout.split())
     assert ended.returncode == 0, ended
     for each in ("fencing resource-and-stonith;", "protocol C;", "fence-peer /etc/drbd.d/index-fence;",

@@ -11,8 +11,10 @@ from typing import BinaryIO, Optional, Sequence, Tuple
 from package_index.disk import is_there
 from package_index.ends import Refused
 
-# the database, its log, and what else SQLite may leave beside it
-ENDS = "", "-wal", "-shm", "-journal"
+# how the volume of a database is named, and the log that an opening of the volume leaves, without a byte
+VOLUME, VOLUME_LOG = "-volume", "-volume-wal"
+# the database, its log, what else SQLite may leave beside it, and the volume
+ENDS = "", "-wal", "-shm", "-journal", VOLUME, VOLUME_LOG
 # where SQLite's locks are: the bytes of a file from 1 GiB on
 LOCKS = 0x40000000, 512
 COPY = re.compile(r"index-(\d{8}T\d{6})Z\.db")

@@ -7,9 +7,10 @@ import os
 from typing import Dict, Iterable, List, NamedTuple, Optional, Sequence
 
 from package_index.changes import moment_in
-from package_index.database import COPY, moment_of
+from package_index.database import COPY, VOLUME, moment_of
 from package_index.followed import LONGEST, Place, is_followed_by, left_at, place_in
 from package_index.log_place import rotated
+from package_index.notes import last_of
 from package_index.tallies import DAY, FAILED, HOUR, NO_TOKEN, REFUSED, Tally, within
 
 # a disk is told so long before it is full, by looks that are at least so far apart
@@ -17,6 +18,8 @@ DISK_DAYS, DISK_LOOKS = 7, 6 * HOUR
 CLOCK_SECONDS = 60
 RESTARTS = 3
 BACKUP_HOURS = 26
+# a punch that was missed is made good in the next night; one after a ban waits for a backup, and no longer than this
+PUNCH_HOURS, BANNED = 50, 3600
 # so many in the last hour are a rise, if they are ten times those of an hour before
 MANY, TIMES = 100, 10
 # so long may a log stay behind the database, or a follower behind the log: longer than a request waits in nginx
@@ -85,6 +88,26 @@ def backups(folder: str, units: Iterable[str], now: float, begun: float) -> Iter
         made = max((it for it in moments if it <= now), default=begun)
         if now - made > BACKUP_HOURS * HOUR:
             yield f"no backup was made in {each} for {(now - made) / HOUR:.0f} hours: systemctl status 'index-backup*'"
+
+
+def punches(db: str, notes: str, marks: Iterable[str], now: float, begun: float) -> Iterable[str]:
+    """Of the volume of each index that is looked at since `begun`, the one at DB and those in folders beside it that
+    are named by their ports: what index-punch noted of its last run, and whether that was before the last ban."""
+    (folder, name), banned = os.path.split(db), written(marks)
+    ports = sorted(it for it in (os.listdir(folder) if os.path.isdir(folder) else ()) if it.isdigit())
+    for own in ("", *ports):
+        volume, last = os.path.join(folder, own, name + VOLUME), last_of(os.path.join(notes, own))
+        began = last.began if last and last.began <= now else begun
+        if not os.path.exists(volume):
+            continue
+        if began < banned < now - BANNED:
+            yield (f"what was banned {(now - banned) / 60:.0f} minutes ago is still in {volume}: "
+                   "systemctl status 'index-punch*'")
+        elif now - began > PUNCH_HOURS * HOUR:
+            yield f"{volume} was not punched for {(now - began) / HOUR:.0f} hours: systemctl status 'index-punch*'"
+        elif last and last.kept:
+            yield (f"{last.kept} bytes of deleted files stay in {volume} or its copies: they are zeros now, and the "
+                   "file system there has no holes")
 
 
 def failed(tally: Tally, now: float) -> Iterable[str]:

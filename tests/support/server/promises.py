@@ -32,7 +32,8 @@ def directives(path: str) -> Iterator[tuple[str, int, int]]:
 
 
 def files() -> list[str]:
-    kinds = "systemd/*.service", "systemd/*.timer", "systemd/*.conf", "systemd/*/*.conf", "nginx/*.conf"
+    kinds = ("systemd/*.service", "systemd/*.timer", "systemd/*.path", "systemd/*.conf", "systemd/*/*.conf",
+             "nginx/*.conf")
     return sorted(path for kind in kinds for path in glob.glob(f"{SERVER}/{kind}"))
 
 

@@ -28,7 +28,7 @@ import os, runpy, sys
 left, number = int(sys.argv.pop(1)), int(sys.argv.pop(1))
 begun = left
 CALLS = {"os.mkdir", "os.link", "os.remove", "os.rename", "os.rmdir", "os.chmod", "os.chown", "subprocess.Popen",
-         "http.client.connect", "http.client.send"}
+         "http.client.connect", "http.client.send", "fcntl.ioctl"}
 def step():
     global left
     left -= 1
@@ -43,7 +43,7 @@ def counted(call):
         step()
         return call(*words)
     return counting
-for name in ("fsync", "pwrite", "ftruncate"):
+for name in ("fsync", "fdatasync", "pwrite", "ftruncate"):
     setattr(os, name, counted(getattr(os, name)))
 sys.argv.pop(0)
 try:
