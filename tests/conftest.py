@@ -12,9 +12,10 @@ from hypothesis import HealthCheck, settings
 
 sys.dont_write_bytecode = True
 from support import durations, needed
-from support.options import add_options, share_of
+from support.options import add_options, is_of_share
 from support.places import is_program
 from support.set_up import is_gate, look_in_sbin
+from support.volumes import WITH_VOLUME
 
 MEMORY = "/dev/shm"
 # of what is random, so many rounds are not slow
@@ -70,30 +71,52 @@ def pytest_generate_tests(metafunc):
             pytest.param(it, marks=pytest.mark.slow if it > QUICK_ROUNDS else ()) for it in rounds])
 
 
+def room_of(item):
+    """The room that a test stands in."""
+    return item.nodeid.split("::")[0].rpartition("/")[0].rpartition("/")[2]
+
+
+@pytest.hookimpl(tryfirst=True)
+def pytest_runtest_setup(item):
+    """With --volume each index of some rooms has one: before a fixture makes it."""
+    from support.serving import make_with_volume
+    make_with_volume(item.config.option.volume and room_of(item) in WITH_VOLUME)
+
+
 def in_turn(config, items):
     """All but those that are marked as `by_turns` or `by_hand` and not asked for: by the option of that name, or the
-    first by --share, of which each test function gives its share, or by --alone."""
+    first by --share or --alone. Those of a file that have no parameters take their turn together: they share what takes
+    long."""
     def is_left_out(it, marker):
         found = it.get_closest_marker(marker)
         return found and not getattr(config.option, found.args[0])
 
-    chosen, shared = {it for it in items if not is_left_out(it, "by_hand")}, {}
-    for it in (it for it in items if is_left_out(it, "by_turns") and not config.option.alone):
-        shared.setdefault(it.function, []).append(it)
-    for those in shared.values():
-        those.sort(key=lambda it: it.name)
-        chosen -= {*those} - {*share_of(those, config.option.share)}
-    return chosen
+    def has_its_turn(it):
+        return config.option.alone or is_of_share(it.name if hasattr(it, "callspec") else it.path.name,
+                                                  config.option.share)
+
+    other = "one_file" if config.option.volume else "with_volume"
+    return {it for it in items if not it.get_closest_marker(other) and not is_left_out(it, "by_hand")
+            and (not is_left_out(it, "by_turns") or has_its_turn(it))}
+
+
+def limit_of(item):
+    """How many seconds a test may take."""
+    found = item.get_closest_marker("timeout")
+    return found.args[0] if found else float(item.config.getini("timeout"))
 
 
 @pytest.hookimpl(trylast=True)
 def pytest_collection_modifyitems(config, items):
     """A program that is missing is told once, before any test begins: last, so that `-k` has chosen. Tests that run by
-    turns are left out if not asked for."""
+    turns are left out if not asked for. Workers begin with what may take longest: else one of them goes on with it
+    alone at the end."""
     chosen = in_turn(config, items)
     left_out = [it for it in items if it not in chosen]
     items[:] = [it for it in items if it in chosen]
     config.hook.pytest_deselected(items=left_out)
+    if hasattr(config, "workerinput"):
+        items.sort(key=limit_of, reverse=True)
     needs = [it for it in items if "program" in getattr(it, "fixturenames", ())]
     # a worker of xdist can only let tests fail
     if needs and not config.option.collectonly and not hasattr(config, "workerinput"):

@@ -1,6 +1,7 @@
 """What other servers give, also hostile ones: each reply has a bound of its length and of its time."""
 from __future__ import annotations
 
+import http.client
 import socket
 import threading
 import time
@@ -52,9 +53,13 @@ def dripping(*pieces, pause=0.0, end=b""):
                 except OSError:
                     continue
     with socket.create_server(("127.0.0.1", 0)) as listening:
-        threading.Thread(target=serve, daemon=True).start()
+        serving = threading.Thread(target=serve, daemon=True)
+        serving.start()
         yield f"http://127.0.0.1:{listening.getsockname()[1]}/"
         is_over.set()
+        # one that waits in accept is not woken by close alone
+        listening.shutdown(socket.SHUT_RDWR)
+        serving.join()
 
 
 @catches("indexctl/moving/web.py", "if length is not None and length > most:", "if False:",
@@ -97,6 +102,27 @@ def test_a_reply_that_breaks_off_passes(pieces):
         with pytest.raises(Failure) as end:
             get(url)
     assert end.value.passes
+
+
+@catches("indexctl/moving/web.py", "with connection.getresponse() as reply:",
+         "for reply in [connection.getresponse()]:", case="1")
+@pytest.mark.parametrize("most", [1, 2])
+def test_a_connection_that_a_reply_takes_along_is_closed_with_it(monkeypatch, most):
+    replies = []
+
+    class Seen(http.client.HTTPResponse):
+        def begin(self):
+            replies.append(self)
+            super().begin()
+    monkeypatch.setattr(http.client.HTTPConnection, "response_class", Seen)
+    # without a length it ends with its connection, and the second byte is one too many for the first row
+    with dripping(HEAD + b"\r\n", b"ab") as url:
+        if most == 2:
+            assert get(url, most).body == b"ab"
+        else:
+            with pytest.raises(Failure, match="it has more than 1 bytes"):
+                get(url, most)
+    assert [it.isclosed() for it in replies] == [True]
 
 
 @pytest.mark.parametrize("status, passes", [(429, True), (500, True), (502, True), (503, True), (504, True),

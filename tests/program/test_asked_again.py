@@ -3,7 +3,7 @@ import json
 
 import pytest
 from support.running import by_sqlite
-from support.serving import JSON_PAGE, Index, sha256
+from support.serving import JSON_PAGE, Index, accepted, sha256
 from support.subcommands import End
 from support.workload import line_of
 
@@ -122,6 +122,9 @@ def test_a_page_is_the_new_owners_after_a_transfer(index, looked):
 
 def test_a_file_that_was_spoilt_between_two_openings_is_a_fault_of_the_store(program, path, looked):
     """By another hand, while nobody served: its page and its bytes are such a fault, the page of names is not."""
+    # (of a volume each start looks at the file that ends last)
+    with Index(program, path=path) as index:
+        accepted(index.upload("frob", FIRST, BODIES[FIRST]))
     by_sqlite(path, f"UPDATE files SET digest = x'61' WHERE file = '{OLD}'")
     with Index(program, path=path) as index:
         looked(twice(index, "/simple/old/", JSON_PAGE) == FAULT, "the page of a spoilt file")

@@ -10,6 +10,7 @@ from contextlib import closing
 import pytest
 from support.refusals import Messages, rests
 from support.serving import JSON_PAGE, Index, sha256
+from support.volumes import stored
 
 MEBIBYTE = 1 << 20
 # what is kept without --keep-recent
@@ -71,7 +72,7 @@ def test_files_are_found_again_and_the_oldest_goes_first(program, folder, refusa
 
 def fill(path, names, files):
     """Adds these names, and the name `frob` with these files, that are the bytes `abc`."""
-    digest = bytes.fromhex(sha256(b"abc"))
+    digest, bodies = bytes.fromhex(sha256(b"abc")), stored(path, [b"abc"] * len(files))
     with closing(sqlite3.connect(path)) as database:
         held = [("frob", 1, "frob", 1 << 40, 3 * len(files), len(files), 11),
                 *((name, 1, name, 1 << 30, 0, 0, None) for name in names)]
@@ -79,7 +80,7 @@ def fill(path, names, files):
         database.executemany("INSERT INTO owners VALUES (?, 'office')", [(row[0],) for row in held])
         database.executemany("INSERT INTO files VALUES (?, ?, ?, ?, ?, ?, ?)",
                              [(file, "frob", file[5:-7], digest, 3, "", 1) for file in files])
-        database.executemany("INSERT INTO blobs VALUES (?, ?)", [(file, b"abc") for file in files])
+        database.executemany("INSERT INTO blobs VALUES (?, ?)", zip(files, bodies))
         database.commit()
 
 
@@ -173,7 +174,7 @@ def fill_with_large_files(path, count):
             body, file = os.urandom(MEBIBYTE), f"frob-{number}.tar.gz"
             row = file, "frob", f"{number}", bytes.fromhex(sha256(body)), MEBIBYTE, "", 1
             database.execute("INSERT INTO files VALUES (?, ?, ?, ?, ?, ?, ?)", row)
-            database.execute("INSERT INTO blobs VALUES (?, ?)", (file, body))
+            database.execute("INSERT INTO blobs VALUES (?, ?)", (file, *stored(path, [body])))
         database.commit()
     return path
 

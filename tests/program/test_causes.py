@@ -13,6 +13,7 @@ from support.old_version import make_old_version
 from support.running import by_sqlite
 from support.serving import Index, make_index, sha256
 from support.subcommands import ALL, PATHS, SUMS, End, words_of
+from support.volumes import VOLUME, copy_volume
 
 NOBODY = "setpriv", "--reuid=65534", "--regid=65534", "--clear-groups"
 NO_FILE, NO_FOLDER = "no such file", "no such folder"
@@ -183,6 +184,7 @@ def test_an_index_that_was_in_utf_16_opens_again(shell, refused, end, index_file
     by_shell(f"(echo \"{UTF_16};\"; sqlite3 {index_file} .dump) | sqlite3 {path}")
     refused(path, "damaged", ALL)
     by_shell(f"sqlite3 {path} .dump | sqlite3 {new}")
+    copy_volume(index_file, new)
     assert end("check", "--db", new) == End(0, b"0\n")
 
 
@@ -298,6 +300,11 @@ def as_nobody(program, refused, folder):
     return each
 
 
+def left_in(folder):
+    """What is in a folder, but for a volume."""
+    return [it for it in os.listdir(folder) if f"index.db{VOLUME}" not in it]
+
+
 def test_no_right_to_the_file(as_nobody, looked):
     os.chmod(as_nobody.path, 0o000)
     reads = subprocess.run([*as_nobody.by, "cat", as_nobody.path], stdout=subprocess.DEVNULL, stderr=subprocess.DEVNULL,
@@ -306,7 +313,7 @@ def test_no_right_to_the_file(as_nobody, looked):
     as_nobody(NO_RIGHT)
     os.chmod(as_nobody.path, 0o444)
     as_nobody(NO_RIGHT)
-    left = os.listdir(os.path.dirname(as_nobody.path))
+    left = left_in(os.path.dirname(as_nobody.path))
     looked(left == ["index.db"], left)
 
 
@@ -316,7 +323,7 @@ def test_no_right_to_make_a_log_or_a_file(as_nobody, looked):
     os.chmod(under, 0o555)
     as_nobody(BESIDE)
     as_nobody(NOT_MADE, INITS, path=f"{under}/none.db")
-    left = os.listdir(under)
+    left = left_in(under)
     looked(left == ["index.db"], left)
     os.chmod(under, 0o755)
 

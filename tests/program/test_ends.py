@@ -1,6 +1,7 @@
 """The program exits with the right status and message, whatever its words, its input and its output are."""
 import os
 import re
+import shutil
 import socket
 import subprocess
 from contextlib import contextmanager
@@ -112,6 +113,7 @@ def test_help_names_the_subcommands(end, word):
     assert {*ALL, "help"} == {*re.findall(r"^  ([a-z]+) ", ended.output.decode(), re.M)}, ended
 
 
+@pytest.mark.skipif(not shutil.which("rt"), reason="the kit is not installed")
 def test_the_version_names_the_kit_that_is_here(end):
     """In brackets is the kit that built the program, whatever its revision; before it, if nothing was proved, that."""
     said = subprocess.run(["rt", "version"], stdout=subprocess.PIPE, check=True, timeout=60).stdout.strip()
@@ -229,6 +231,7 @@ def test_serve_gives_a_file_of_the_database(program, path):
     assert (status, body) == (200, b"abc")
 
 
+@pytest.mark.one_file("the bytes of the last file of a volume are looked at by each start")
 @pytest.mark.told("`index: Store`")
 def test_bytes_with_another_digest_are_a_fault_of_the_store(program, path):
     by_sqlite(path, "UPDATE blobs SET body = x'61'")

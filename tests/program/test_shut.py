@@ -1,10 +1,10 @@
 """A server whose database a failed sync has shut ends, and loses nothing; one of whose rows another program spoilt goes
 on, and so does one that can't accept a connection for a moment."""
-import shutil
 import subprocess
 
 import pytest
 from support.failing import Fault
+from support.judge import copy_index
 from support.running import by_sqlite
 from support.serving import ACCEPTED, ALREADY, Index, make_index, sha256
 from support.subcommands import End
@@ -107,11 +107,11 @@ def test_invalid_rows_of_both_names_that_are_looked_up_end_the_server(program, e
 PAGE, FILE, STANDING = "/simple/frob/", "/files/frob/frob-1.0.tar.gz", "/names/frob"
 # what another program writes, and the paths that meet it
 SPOILT = {
-    "a release that is none": ("UPDATE files SET rel = '1.0-'", (PAGE,)),
-    "an empty release": ("UPDATE files SET rel = ''", (PAGE,)),
-    "a release in another spelling": ("UPDATE files SET rel = '1.0A'", (PAGE,)),
-    "a digest that is too short": ("UPDATE files SET digest = x'00'", (PAGE, FILE)),
-    "a size below 0": ("UPDATE files SET size = -1", (PAGE, FILE)),
+    "a release that is none": ("UPDATE files SET rel = '1.0-' WHERE name = 'frob'", (PAGE,)),
+    "an empty release": ("UPDATE files SET rel = '' WHERE name = 'frob'", (PAGE,)),
+    "a release in another spelling": ("UPDATE files SET rel = '1.0A' WHERE name = 'frob'", (PAGE,)),
+    "a digest that is too short": ("UPDATE files SET digest = x'00' WHERE name = 'frob'", (PAGE, FILE)),
+    "a size below 0": ("UPDATE files SET size = -1 WHERE name = 'frob'", (PAGE, FILE)),
     "a moment below 0": ("UPDATE names SET last_upload = -5", ("/simple/", PAGE, STANDING)),
     "a kind that no case has": ("UPDATE cases SET kind = 9", (STANDING,)),
     "attempts below 0": ("UPDATE cases SET attempts = -1", (STANDING,)),
@@ -120,7 +120,8 @@ SPOILT = {
 
 @pytest.fixture(scope="module")
 def filled_index(program, shared_folder):
-    """An index with the project `frob`, which has an owner, a file, a yank and a case."""
+    """An index with the project `frob`, which has an owner, a file, a yank and a case, and with a file of another one,
+    at which each start looks if the bytes are in a volume."""
     path = make_index(program, f"{shared_folder}/filled.db")
     lines = line_of("office", 1, do="add_user", user="ann", office=False, token_sha256=sha256(b"abc"))
     lines += line_of("office", 1, do="claim", name="frob")
@@ -128,8 +129,11 @@ def filled_index(program, shared_folder):
                      requires_python="")
     lines += line_of("office", 1, do="yank", name="frob", release="1.0", reason="broken")
     lines += line_of("abc", 1, do="open_case", name="frob", kind="reuse", contact="mail", work="a fork", why="unused")
+    lines += line_of("office", 1, do="claim", name="egg")
+    lines += line_of("office", 1, do="upload", file="egg-1.0.tar.gz", sha256=sha256(b"abc"), hex=b"abc".hex(),
+                     requires_python="")
     answered = subprocess.run([program, "apply", "--db", path], input=lines, stdout=subprocess.PIPE, timeout=60).stdout
-    assert answered == (ACCEPTED + b"\n") * 5
+    assert answered == (ACCEPTED + b"\n") * 7
     return path
 
 
@@ -137,7 +141,7 @@ def filled_index(program, shared_folder):
 def test_an_invalid_row_is_a_fault_of_the_store_and_not_of_memory(program, filled_index, folder, looked, what):
     """Wherever it is met; and the server goes on."""
     statement, met = SPOILT[what]
-    path = shutil.copy(filled_index, f"{folder}/spoilt.db")
+    path = copy_index(filled_index, f"{folder}/spoilt.db")
     by_sqlite(path, "PRAGMA ignore_check_constraints = ON", statement)
     with Index(program, path=path, at=6) as index:
         for place in met:
@@ -149,7 +153,8 @@ def test_an_invalid_row_is_a_fault_of_the_store_and_not_of_memory(program, fille
 
 def test_apply_answers_store_for_a_release_that_is_none(end, filled_index, folder):
     """And goes on with the next line."""
-    path = by_sqlite(shutil.copy(filled_index, f"{folder}/spoilt.db"), "UPDATE files SET rel = '1.0-'")
+    statement, _ = SPOILT["a release that is none"]
+    path = by_sqlite(copy_index(filled_index, f"{folder}/spoilt.db"), statement)
     lines = line_of("office", 2, do="delete", file="frob-1.0.tar.gz") + b'{"do":"standing","name":"other"}\n'
     assert end("apply", "--db", path, given=lines) == End(0, STORE + b'\n{"name":"other","state":"free"}\n')
 

@@ -9,6 +9,7 @@ import pytest
 from support.model.pages import HTML, JSON_1, Listed, page_of_files, page_of_names
 from support.serving import ACCEPTED, ALREADY, Index, reply_to, sha256
 from support.subcommands import End
+from support.volumes import stored
 from support.workload import line_of
 
 BAD_BODY, FREE = b'{"answer":"message","name":"BadBody"}', b'{"name":"frob","state":"free"}'
@@ -177,6 +178,7 @@ def test_a_file_has_as_many_bytes_as_it_may(program, index_file, is_sound, chanc
 
 def fill(path, names, files):
     """Adds held names, and the name `frob` with files that are the bytes `abc`."""
+    bodies = stored(path, [b"abc"] * len(files))
     with closing(sqlite3.connect(path)) as database:
         held = [("frob", 1, "frob", 1 << 40, 3 * len(files), len(files), 11),
                 *((name, 1, name, QUOTA, 0, 0, None) for name in names)]
@@ -184,7 +186,7 @@ def fill(path, names, files):
         database.executemany("INSERT INTO owners VALUES (?, 'office')", [(row[0],) for row in held])
         rows = [(file, "frob", file[5:-7], bytes.fromhex(ABC), 3, "", 1) for file in files]
         database.executemany("INSERT INTO files VALUES (?, ?, ?, ?, ?, ?, ?)", rows)
-        database.executemany("INSERT INTO blobs VALUES (?, ?)", [(file, b"abc") for file in files])
+        database.executemany("INSERT INTO blobs VALUES (?, ?)", zip(files, bodies))
         database.commit()
     return path
 

@@ -8,6 +8,7 @@ from support.needed import want_command
 from support.running import run
 from support.serving import ACCEPTED, ALREADY
 from support.subcommands import End
+from support.volumes import copy_volume
 from support.workload import STORE, line_of, upload
 
 # in bytes: enough for some uploads, and not for all
@@ -62,4 +63,5 @@ def test_an_index_whose_pages_have_reserved_bytes_opens_again(end, index_file, f
     ended = end("check", "--db", index_file)
     assert (ended.status, ended.error) == (1, f"index: Store\nindex: {index_file}: damaged\n".encode()), ended
     subprocess.run(["sh", "-ec", f"sqlite3 {index_file} .dump | sqlite3 {new}"], check=True)
+    copy_volume(index_file, new)
     assert end("check", "--db", new) == End(0, b"0\n")

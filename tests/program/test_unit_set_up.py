@@ -185,7 +185,13 @@ def test_what_was_left_out_is_counted_by_packages_and_by_reasons():
     assert left_out({"only root may": 3}) == "NOT RUN: 3 tests\n  3: only root may"
 
 
-# a room of tests, of which some are skipped
+# a room of tests, of which some are skipped, also by what they ask for
+CONFTEST = """import pytest
+
+@pytest.fixture
+def below():
+    pytest.skip("of a fixture: 3")
+"""
 TESTS = """import pytest
 
 @pytest.mark.parametrize("reason", ["known: 3", "unknown"])
@@ -199,6 +205,9 @@ def test_b():
 @pytest.mark.xfail
 def test_c():
     assert False
+
+def test_d(below):
+    pass
 """
 
 
@@ -208,14 +217,35 @@ def test_c():
 @pytest.mark.parametrize("gate", [{"CI": "true"}, {"CI": ""}])
 def test_in_the_gate_a_test_fails_that_is_skipped_for_another_reason_than_those_of_the_list(tmp_path, gate):
     copy = copy_rooms(str(tmp_path))
-    write_below(tmp_path, "tests/program/test_skips.py", TESTS)
-    write_below(tmp_path, "tests/skips.txt", "# why\ntests/program/test_skips.py: known: *\n")
-    ended = run_command([sys.executable, "-B", "-m", "pytest", "-q", "-n", "0", f"{copy}/tests/program/test_skips.py"],
-                        **gate)
+    write_below(tmp_path, "tests/program/below/conftest.py", CONFTEST)
+    write_below(tmp_path, "tests/program/below/test_skips.py", TESTS)
+    write_below(tmp_path, "tests/skips.txt", "# why\ntests/program/below/test_skips.py: known: *\n"
+                                             "tests/program/below/conftest.py: of a fixture: *\n")
+    ended = run_command([sys.executable, "-B", "-m", "pytest", "-q", "-n", "0",
+                         f"{copy}/tests/program/below/test_skips.py"], **gate)
     lines = ended.stdout.splitlines()
     assert lines[-1] == ("0 passed, 2 failed" if gate["CI"] else "0 passed, 0 failed"), ended.stdout
     assert ended.returncode == (1 if gate["CI"] else 0)
-    assert ("  1: unknown" in lines) == (not gate["CI"]) and "  1: known: 3" in lines
+    assert ("  1: unknown" in lines) == (not gate["CI"])
+    assert "  1: known: 3" in lines and "  1: of a fixture: 3" in lines
+
+
+@catches("tools/lib/skips.py", 'return name == "conftest.py" and place.startswith(f"{folder}/")',
+         'return name == "conftest.py"')
+@pytest.mark.parametrize("path, reason, may", [
+    ("tests/clients/conftest.py", "python3 is Debian's own", True),
+    ("tests/clients/test_a.py", "python3 is Debian's own", True),
+    ("tests/clients/below/test_a.py", "python3 is Debian's own", True),
+    ("tests/clients/test_a.py", "another", False),
+    ("tests/clients_of_others/test_a.py", "python3 is Debian's own", False),
+    ("tests/test_a.py", "python3 is Debian's own", False),
+    ("tests/clients/test_b.py", "of one file", True),
+    ("tests/clients/test_a.py", "of one file", False),
+])
+def test_a_skip_may_be_of_the_file_of_the_test_or_of_a_conftest_above_it(monkeypatch, path, reason, may):
+    monkeypatch.setattr(skips, "rows", lambda: [("tests/clients/conftest.py", "python3 is Debian's own"),
+                                                ("tests/clients/test_b.py", "of one file")])
+    assert skips.may_be_skipped(f"{TOP}/{path}", reason) == may
 
 
 @catches("tools/lib/skips.py", 'if name in ("skip", "skipif", "importorskip"):', 'if name in ("skip", "importorskip"):')

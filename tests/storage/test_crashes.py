@@ -1,7 +1,7 @@
-"""What a crash may leave of a database and its log is made, and opened with the program.
+"""What a crash may leave of a database, its log and its volume is made, and opened with the program.
 
-Runs of the program are recorded by a preloaded library (record_calls.c), with each write and each sync of both files,
-and with each answer. For places of each record an image of both files is made, in which writes that were not synced are
+Runs of the program are recorded by a preloaded library (record_calls.c), with each write and each sync of these files,
+and with each answer. For places of each record an image of the files is made, in which writes that were not synced are
 kept, lost, come in part, or are garbled. SQLite has to find it sound, by Python's sqlite3, and the program has to open
 it: `check` prints 0, and the rows are those of what was answered, or with what was in hand. Some openings are recorded
 themselves, and crash a second time. The tests also try themselves: of records from which syncs are left out images have
@@ -11,7 +11,7 @@ import time
 import pytest
 from support.chance import chosen
 from support.crash_runs import Opening, Recording
-from support.images import ANSWERED, DATABASE, FOLDER, LOG, SYNCED, WRITTEN, images_of, places_of
+from support.images import ANSWERED, DATABASE, FOLDER, LOG, SYNCED, VOLUME, WRITTEN, images_of, places_of
 from support.judge import Judge
 
 ROUNDS = 400
@@ -97,7 +97,8 @@ def last_syncs_before_answers(run_of):
     pytest.param("apply", syncs_of(LOG), id="syncs_of_the_log"),
     pytest.param("apply", last_syncs_before_answers, id="the_sync_before_each_answer"),
     pytest.param("opening", syncs_of(DATABASE), id="syncs_of_the_database"),
-    pytest.param("init", syncs_of(FOLDER), id="syncs_of_the_folder")])
+    pytest.param("init", syncs_of(FOLDER), id="syncs_of_the_folder"),
+    pytest.param("apply", syncs_of(VOLUME), id="syncs_of_the_volume", marks=pytest.mark.with_volume)])
 def test_without_syncs_an_image_is_refused(recording, opening, chance, looked, name, left_out):
     """The tests try themselves."""
     run_of = recording.run_of(name)

@@ -131,7 +131,13 @@ def test_apply_ends_where_its_input_or_output_fails(runs, kind, count):
         runs.is_kept(lines[:made] or lines[:1], whole[:made], fault)
 
 
-@pytest.mark.parametrize("asked", ALL, ids=str)
+def of_a_row(asked):
+    """What no look at bytes of files asks. If these lie in a volume, all pages of the database stay cached."""
+    marks = () if "/files/" in asked.name else pytest.mark.one_file("no page is read again")
+    return pytest.param(asked, marks=marks, id=str(asked))
+
+
+@pytest.mark.parametrize("asked", map(of_a_row, ALL))
 def test_a_read_that_fails_stops_its_request_alone(runs, many, asked, count):
     """Behind the opening, under `serve`, which caches nothing here: the next request is right once the disk is well."""
     LateReads(runs, many, asked).all(count(OF_LATE_READS / 3, (*ALL, *JOBS)))

@@ -8,14 +8,17 @@ import os
 from dataclasses import dataclass, replace
 
 from support.images import ANSWERED, read_record
-from support.judge import copy_index, seen_by_sqlite
+from support.judge import LOG, copy_index, seen_by_sqlite
 from support.old_version import make_old_version
 from support.serving import OFFICE, Index, reply_to
 from support.running import built, kill_after, run
+from support.volumes import VOLUME
 from support.workload import REQUESTS, lines_of, message_of, of_name, upload
 
 # more than the program keeps in memory of one change, and than the log holds before it is copied
 LARGE = 8_400_000
+# of the files of an index, in the order of images
+ENDS = "", LOG, VOLUME
 
 
 @dataclass(frozen=True)
@@ -45,6 +48,11 @@ def content(path):
         return None
     with open(path, "rb") as kept:
         return kept.read()
+
+
+def contents(path):
+    """Of a database, its log and its volume, in the order of images; None of what is not there."""
+    return tuple(content(path + end) for end in ENDS)
 
 
 def answers_begun(entries, is_served):
@@ -78,8 +86,7 @@ class Recording:
         return self.known[name]
 
     def begin(self, first):
-        copy_index(first or "", self.path)
-        return content(self.path), content(f"{self.path}-wal")
+        return contents(copy_index(first or "", self.path))
 
     def recorded(self, name, first, states, before=(), is_served=False):
         entries = tuple(read_record(self.record))
@@ -118,8 +125,7 @@ class Recording:
         messages = [message_of(request) for request in large_requests()]
         states = [self.served(messages[:count]) for count in range(len(messages) + 1)]
         self.served(messages, self.setting)
-        return self.recorded("serve", (content(self.judge.new), content(f"{self.judge.new}-wal")), states,
-                             is_served=True)
+        return self.recorded("serve", contents(self.judge.new), states, is_served=True)
 
     def served(self, messages, setting=None):
         """The rows behind these messages."""
@@ -177,8 +183,8 @@ class Opening:
 
 
 def lay(image, path):
-    """Writes a database and its log to a path, or removes what is not in the image."""
-    for end, kept in zip(("", "-wal"), image):
+    """Writes a database, its log and its volume to a path, or removes what is not in the image."""
+    for end, kept in zip(ENDS, image, strict=True):
         if os.path.exists(path + end):
             os.remove(path + end)
         if kept is not None:

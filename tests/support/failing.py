@@ -4,6 +4,7 @@ import struct
 from dataclasses import dataclass
 
 from support.running import built
+from support.volumes import VOLUME
 
 KINDS = ("open", "pread", "pwrite", "fsync", "fdatasync", "ftruncate", "read", "write", "recv", "send", "accept")
 FILE_KINDS, STREAM_KINDS, PEER_KINDS = KINDS[:6], KINDS[6:8], KINDS[8:]
@@ -51,7 +52,7 @@ class Fault:
     def may_be_told(self, said, path):
         """Whether these lines tell of it as `Store`, and of no cause on a second line, or of one that it may have."""
         causes = CAUSES.get(self.kind) or CAUSES.get(self.how, (FAILED_DISK, SHUT))
-        second = [f"index: {path}: {cause}\n" for cause in causes]
+        second = [f"index: {subject}: {cause}\n" for subject in (path, path + VOLUME) for cause in causes]
         return said.decode() in ("index: Store\n", *(f"index: Store\n{line}" for line in second))
 
     def is_harmless(self):

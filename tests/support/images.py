@@ -1,4 +1,4 @@
-"""What a crash may leave of a database and its log, made from the record of a run (record_calls).
+"""What a crash may leave of a database, its log and its volume, made from the record of a run (record_calls).
 
 Between two syncs of a file each range that was written may hold what was there, what was written, or anything, and the
 length is any between the least and the greatest; what lies past the least may be anything. All else is as it was. A
@@ -7,7 +7,8 @@ import struct
 from dataclasses import dataclass
 
 MADE, WRITTEN, CUT, SYNCED, ANSWERED, REMOVED = range(6)
-DATABASE, LOG, FOLDER, OTHER = range(4)
+DATABASE, LOG, FOLDER, OTHER, VOLUME = range(5)
+FILES = DATABASE, LOG, VOLUME
 SECTOR = 512
 # what becomes of the writes that were not synced
 HOWS = ("kept", "lost", "some", "torn", "garbled")
@@ -107,37 +108,37 @@ def garbled(piece, random):
     return piece[:begun] + random.randbytes(len(piece) - begun)
 
 
-class Pair:
-    """A database and its log, as a run makes them."""
+class Index:
+    """A database, its log and its volume, as a run makes them."""
 
-    def __init__(self, database, log):
-        self.files = [File(database), File(log)]
+    def __init__(self, contents):
+        self.files = {file: File(content) for file, content in zip(FILES, contents, strict=True)}
 
     def take(self, entry):
-        if entry.file in (DATABASE, LOG):
+        if entry.file in FILES:
             self.files[entry.file].take(entry)
         elif entry.file == FOLDER and entry.done == SYNCED:
-            for file in self.files:
+            for file in self.files.values():
                 file.has_name = file.content is not None
 
     def image(self, how, random):
-        return [file.image(how, random) for file in self.files]
+        return [file.image(how, random) for file in self.files.values()]
 
 
 def images_of(first, entries, places, random):
     """For each of these places, in their order, the number of its entry, what becomes of writes, and one image."""
-    pair, wanted = Pair(*first), iter(places)
+    index, wanted = Index(first), iter(places)
     place = next(wanted, None)
     for number, entry in enumerate(entries):
-        pair.take(entry)
+        index.take(entry)
         while place is not None and place[0] == number:
-            yield number, place[1], pair.image(place[1], random)
+            yield number, place[1], index.image(place[1], random)
             place = next(wanted, None)
 
 
 def places_of(entries):
     """Behind each entry, and each way in which writes are lost: where nothing is unsynced, one way is enough."""
-    unsynced, found = {DATABASE: 0, LOG: 0}, []
+    unsynced, found = dict.fromkeys(FILES, 0), []
     for number, entry in enumerate(entries):
         if entry.file in unsynced:
             unsynced[entry.file] = 0 if entry.done == SYNCED else unsynced[entry.file] + 1

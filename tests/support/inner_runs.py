@@ -17,7 +17,7 @@ from support.places import TOP
 ROOMS = ("server", "indexctl", "tests", "tools", "docs", "bench", "crates/index_request_tests/src/tests")
 FILES = ("LICENSE", "crates.txt", "CHANGELOG.md", "README.md", ".ci/run", "crates/index_args/src/command.rt",
          "crates/index/src/serving.rt", "crates/index/stdin", "crates/index/stdout",
-         "crates/index_rules/src/decision/files.rt")
+         "crates/index_rules/src/decision/files.rt", "crates/index_sql_schema/src/table_texts.rt")
 # for the fixtures of a run that is interrupted, to end what they started
 SECONDS_TO_END = 30
 SKIPPED = re.compile(r"^SKIPPED \[\d+\] \S+: (.*)$", re.M)

@@ -2,10 +2,12 @@
 import os
 import shutil
 import sqlite3
+import struct
 from contextlib import closing
 
 from support.serving import make_index, sha256
 from support.running import new_folder, run
+from support.volumes import VOLUME, bodies_of, has_volume
 from support.workload import STORE
 
 TABLES = ("meta", "users", "names", "owners", "files", "blobs", "yanks", "cases", "bans")
@@ -17,22 +19,25 @@ PATIENCE = 600
 
 
 def copy_index(path, to):
-    """Copies a database and its log to another path, and leaves nothing else there."""
-    for end in ("", LOG, "-shm", "-journal"):
+    """Copies a database, its log and its volume to another path, and leaves nothing else there."""
+    for end in ("", LOG, VOLUME, "-shm", "-journal"):
         if os.path.exists(to + end):
             os.remove(to + end)
-        if end in ("", LOG) and os.path.exists(path + end):
+        if end in ("", LOG, VOLUME) and os.path.exists(path + end):
             shutil.copy(path + end, to + end)
     return to
 
 
 def rows_of(path):
-    """The rows of each table of a database, in order. A table that is not there has none."""
+    """The rows of each table of a database, in order, with the bytes of files also if these lie in a volume. A table
+    that is not there has none."""
     found = {}
     with closing(sqlite3.connect(path)) as database:
         for table in TABLES:
             if database.execute("SELECT 1 FROM sqlite_master WHERE name = ?", (table,)).fetchall():
-                found[table] = sorted(map(short, database.execute(f"SELECT * FROM {table}").fetchall()), key=repr)
+                rows = database.execute(f"SELECT * FROM {table}").fetchall()
+                rows = bodies_of(path, rows) if table == "blobs" and has_volume(path) else rows
+                found[table] = sorted(map(short, rows), key=repr)
     return found
 
 
@@ -49,7 +54,7 @@ def seen_by_sqlite(path):
             with closing(sqlite3.connect(copy)) as database:
                 said = database.execute("PRAGMA integrity_check").fetchall()
             return said == [("ok",)], rows_of(copy)
-        except sqlite3.DatabaseError as end:
+        except (sqlite3.DatabaseError, OSError, struct.error) as end:
             return False, repr(end)
 
 

@@ -3,6 +3,7 @@ from __future__ import annotations
 
 import random
 import re
+import zlib
 
 from support.places import built_program
 
@@ -22,9 +23,10 @@ def share(word: str) -> tuple[int, int]:
     return int(found[1]), int(found[2])
 
 
-def share_of(those: list, which: tuple[int, int] | None) -> list:
-    """Each of them whose place is of this share; none of them if there is no share."""
-    return [it for at, it in enumerate(those) if which and at % which[1] == which[0] % which[1]]
+def is_of_share(name: str, which: tuple[int, int] | None) -> bool:
+    """Whether what has this name is of this share; not if there is none. It goes by the name alone, so that whatever
+    comes beside it moves it into no other."""
+    return which is not None and zlib.crc32(name.encode()) % which[1] == which[0] % which[1]
 
 
 def add_options(parser) -> None:
@@ -39,6 +41,8 @@ def add_options(parser) -> None:
                     "allocations of whole runs, one of so many; 50 if not given")
     group.addoption("--seed", type=int, metavar="N", default=random.randrange(10 ** 6), help="of what is random; "
                     "printed first")
+    group.addoption("--volume", action="store_true", help="have each index of the rooms clients, model, program and "
+                    "storage keep the bytes of its files in a volume")
     group.addoption("--breaks", action="store_true", help="also make each break in a copy, and run its tests there: "
                     "10 s each")
     group.addoption("--build", action="store_true", help="also build the wrong programs of tests/mutants: some minutes "

@@ -4,7 +4,7 @@
    RECORD_TO      the record, which is made anew
 
    An entry is 4 numbers of 8 bytes, and then the bytes that were written. The numbers are what was done (`enum done`),
-   the file (0 the database, 1 its log, 2 the folder, 3 another), where, and how many bytes. What failed is not recorded.
+   the file (0 the database, 1 its log, 2 the folder, 3 another, 4 its volume), where, and how many bytes. What failed is not recorded.
    An answer is what went to standard output or to a socket, with its bytes. */
 #define _GNU_SOURCE
 #include <dlfcn.h>
@@ -18,7 +18,7 @@
 #include <unistd.h>
 
 enum done { MADE, WRITTEN, CUT, SYNCED, ANSWERED, REMOVED };
-enum file { DATABASE, LOG, FOLDER, OTHER };
+enum file { DATABASE, LOG, FOLDER, OTHER, VOLUME };
 
 static const char *under;
 static int record = -1;
@@ -53,7 +53,8 @@ static int ends_with(const char *path, const char *end) {
 static enum file named(const char *path) {
     if (ends_with(path, ".db")) return DATABASE;
     if (ends_with(path, ".db-wal")) return LOG;
-    return ends_with(path, "-journal") ? OTHER : FOLDER;
+    if (ends_with(path, ".db-volume")) return VOLUME;
+    return ends_with(path, "-journal") || ends_with(path, ".db-volume-wal") ? OTHER : FOLDER;
 }
 
 static int opened(const char *path, int flags, int file) {

@@ -67,6 +67,19 @@ def run_command(words, seconds=60, **setting):
         return subprocess.CompletedProcess(words, -1, f"{end}")
 
 
+def new_repository(folder, paths):
+    """The short names of the commits of a new repository of git, each of which adds one of these files."""
+    git = ["git", "-C", str(folder), "-c", "user.name=ann", "-c", "user.email=ann@example.org"]
+    assert run_command([*git, "init"]).returncode == 0
+    names = []
+    for path in paths:
+        write_below(folder, path, "a text")
+        for words in (["add", path], ["commit", "--message", "a change"]):
+            assert run_command([*git, *words]).returncode == 0
+        names.append(run_command([*git, "rev-parse", "--short", "HEAD"]).stdout.strip())
+    return names
+
+
 def kill_after(program, path, lines):
     """Applies these lines to a database, and kills the program when all are answered. So its log has them."""
     with subprocess.Popen([program, "apply", "--db", path], stdin=subprocess.PIPE, stdout=subprocess.PIPE) as applying:

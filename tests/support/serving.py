@@ -22,8 +22,15 @@ def sha256(data):
 
 
 # the words of `init` for the user `office`, with the token `office`
-OFFICE = "--user", "office", "--token-sha256", sha256(b"office")
+FIRST_USER = "--user", "office", "--token-sha256", sha256(b"office")
+# these, and `--volume` as long as indexes are made with a volume
+OFFICE = [*FIRST_USER]
 free_port = ports.free_port
+
+
+def make_with_volume(is_asked):
+    """Has each index that tests make from now on have a volume, or none."""
+    OFFICE[:] = [*FIRST_USER, *["--volume"] * is_asked]
 
 
 def listens(port, patience=60):
@@ -136,10 +143,11 @@ def accepted(reply):
 
 class Index(Running, Asking):
     """The built program, serving the index in a file, or a new one. It listens on `listen`, or on `host`, where it is
-    asked. `under` are the words of a command that becomes it. What it says on standard error is kept."""
+    asked. `under` are the words of a command that becomes it, and `more` are further options. What it says on standard
+    error is kept."""
 
     def __init__(self, program, requests=1_000_000, path=None, patience=60, setting=None, port=0, at=None, keep=None,
-                 host="127.0.0.1", listen=None, under=(), rounds=None):
+                 host="127.0.0.1", listen=None, under=(), rounds=None, more=()):
         self.patience, self.program, self.host, self.listen = patience, program, host, listen or host
         self.said, self.folder = tempfile.TemporaryFile(), tempfile.TemporaryDirectory()
         self.path = path or f"{self.folder.name}/index.db"
@@ -148,6 +156,7 @@ class Index(Running, Asking):
         words += [] if rounds is None else ["--rounds", str(rounds)]
         words += [] if at is None else ["--at", str(at)]
         words += [] if keep is None else ["--keep-recent", str(keep)]
+        words += more
         super().__init__(words, stdout=subprocess.PIPE, stderr=self.said, env={**os.environ, **(setting or {})})
 
     def __enter__(self):

@@ -21,9 +21,16 @@ def rows() -> list[tuple[str, str]]:
 
 
 def may_be_skipped(path: str, reason: str) -> bool:
-    """Whether the gate may leave out a test for this reason, which this file says."""
+    """Whether the gate may leave out a test for this reason, which this file says, or a conftest.py above it: of a
+    fixture that skips a test, pytest names the test's file."""
     place = os.path.relpath(path, TOP)
-    return any(place == file and fnmatchcase(reason, known) for file, known in rows())
+    return any((place == file or is_conftest_above(file, place)) and fnmatchcase(reason, known)
+               for file, known in rows())
+
+
+def is_conftest_above(file: str, place: str) -> bool:
+    folder, name = os.path.split(file)
+    return name == "conftest.py" and place.startswith(f"{folder}/")
 
 
 def text_of(node: ast.AST | None) -> str | None:

@@ -1,7 +1,6 @@
 """Runs of lines and messages: what the model says of them, what the program does, and where the two differ."""
 import os
 import re
-import shutil
 import socket
 import sqlite3
 import subprocess
@@ -9,9 +8,11 @@ import tempfile
 from contextlib import closing, suppress
 from typing import NamedTuple, Optional
 
+from support.judge import copy_index
 from support.model import formats, messages
 from support.model import tables as tables_of_model
 from support.serving import OFFICE, Index, make_index
+from support.volumes import bodies_of, has_volume
 
 PATIENCE = 60
 NEWLINE = b"\n"
@@ -71,7 +72,7 @@ class Runner:
         if store == "memory":
             return self.difference_of_group(tables, len(steps), steps, []) if steps else None
         with tempfile.TemporaryDirectory(dir=self.folder) as folder:
-            path = shutil.copy(f"{self.folder}/new/index.db", folder)
+            path = copy_index(f"{self.folder}/new/index.db", f"{folder}/index.db")
             for number, (end, group) in enumerate(groups(steps)):
                 found = self.difference_of_group(tables, end, group, ["--db", path])
                 if not only_answers:
@@ -109,6 +110,8 @@ class Runner:
     def difference_of_rows(self, tables, end, path):
         """The first table whose rows differ, while no program has the database open."""
         wanted, found = tables_of_model.rows(tables), rows_of(path)
+        if "--volume" in OFFICE:
+            wanted["meta"] = [(1, "python-index", 3)]
         for table in TABLES:
             if wanted[table] != found[table]:
                 return Difference(end, f"the rows of {table}", *only(wanted[table], found[table]))
@@ -138,8 +141,12 @@ def reply_to(port, message):
 
 
 def rows_of(path):
+    """The rows of each table, with the bytes of files also if these lie in a volume."""
     with closing(sqlite3.connect(path)) as database:
-        return {table: sorted(database.execute(f"SELECT * FROM {table}").fetchall(), key=repr) for table in TABLES}
+        rows = {table: database.execute(f"SELECT * FROM {table}").fetchall() for table in TABLES}
+    if has_volume(path):
+        rows["blobs"] = bodies_of(path, rows["blobs"])
+    return {table: sorted(those, key=repr) for table, those in rows.items()}
 
 
 def only(wanted, found):
