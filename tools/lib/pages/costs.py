@@ -19,13 +19,10 @@ PART = re.compile(r"(\S+) +([\d.]+) min, +([\d.]+) of processors")
 
 
 def table_of(lines: str) -> str:
-    """The table of these parts; the tools that run one after the other beside the wrong bodies are one row."""
-    parts = [(name, float(clock), float(taken)) for name, clock, taken in PART.findall(lines)]
-    if not parts:
+    """The table of these parts.."""
+    rows = [(name, float(clock), float(taken)) for name, clock, taken in PART.findall(lines)]
+    if not rows:
         raise SystemExit("costs: no line tells what a part took")
-    own = [part for part in parts if part[0] in ("rt-ci", "try-edits", "try-twins")]
-    tools = [part for part in parts if part not in own]
-    rows = [*own, ("the other tools", sum(it[1] for it in tools), sum(it[2] for it in tools))]
     commit = subprocess.run(["git", "-C", TOP, "rev-parse", "--short", "HEAD"], stdout=subprocess.PIPE, text=True,
                             check=True).stdout.strip()
     head = [f"| {commit}, {datetime.date.today()}, {os.cpu_count()} processors | Minutes | Of processors |",
