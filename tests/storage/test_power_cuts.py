@@ -24,6 +24,7 @@ from support.running import built, run_command
 STATES = 100
 # of the runs of tools, each of which takes longer to look at
 OF_TOOLS = {"reseal": 40, "restore": 40, "configure": 24, **{name: 24 for name in JOBS}}
+RESEAL = pytest.param("reseal", marks=pytest.mark.one_file("index-reseal refuses an index with a volume"))
 # with how many states at the least one of a disk that keeps no promise is found
 STATES_TO_SEE = 120
 
@@ -88,7 +89,7 @@ def cut(program: str, folder: str, job: Job, file_system: str, chance: random.Ra
 @catches("server/bin/index-reseal", "put_there(made, new)", "shutil.copyfile(made, new)", case="ext4-reseal")
 @catches("server/lib/package_index/disk.py", "    sync(target)", "    pass",
          ("server/bin/index-log", "    sync(os.path.dirname(db))", "    pass"), case="ext4-log")
-@pytest.mark.parametrize("name", ["init", "apply", "migrate", "serve", "reseal", "restore", *JOBS])
+@pytest.mark.parametrize("name", ["init", "apply", "migrate", "serve", RESEAL, "restore", *JOBS])
 def test_a_power_cut_leaves_what_was_answered(program, folder, judge, file_system, name, chance, looked, pytestconfig):
     need(file_system)
     cut(program, folder, jobs(name, program, folder, judge), file_system, chance, looked, pytestconfig.option.rounds)

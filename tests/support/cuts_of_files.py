@@ -6,7 +6,6 @@ from __future__ import annotations
 import glob
 import json
 import os
-import shutil
 import subprocess
 import sys
 import tempfile
@@ -22,6 +21,7 @@ from support.server.caches import keys, make_cache
 from support.server.logs import Logs, bytes_of
 from support.server.waits import wait_for
 from support.serving import Index, make_index
+from support.volumes import keep_copy
 from support.workload import message_of
 
 # how often another program syncs its file behind the last answer: an answer that can be lost is lost before
@@ -58,7 +58,7 @@ def backup_job(program: str, folder: str) -> Job:
     def prepare(path: str) -> None:
         copy_index(old, path)
         os.mkdir(f"{os.path.dirname(path)}/copies")
-        shutil.copy(first, f"{os.path.dirname(path)}/copies/index-20260101T000000Z.db")
+        keep_copy(first, f"{os.path.dirname(path)}/copies/index-20260101T000000Z")
 
     def make(path: str) -> None:
         ended_well([f"{BIN}/index-backup", path, f"{os.path.dirname(path)}/copies", "1"], INDEX=program)
@@ -76,7 +76,7 @@ def backup_job(program: str, folder: str) -> Job:
 
     def again(path: str) -> str:
         make(path)
-        left = [it for it in os.listdir(f"{os.path.dirname(path)}/copies") if not it.endswith(".db")]
+        left = glob.glob(f"{os.path.dirname(path)}/copies/*.part*")
         return beside(path, 1) or (f"left: {left}" if left else "")
     return Job("backup", prepare, drive, [both[1], both[1]], told(again), ROOM, syncs_beside, beside)
 

@@ -6,7 +6,6 @@ from __future__ import annotations
 
 import os
 import random
-import shutil
 import tempfile
 import threading
 from collections.abc import Callable, Iterator
@@ -122,7 +121,7 @@ def restore_job(program: str, folder: str, **setting: str) -> Job:
 
     def prepare(path: str) -> None:
         copy_index(old, path)
-        shutil.copy(copy, f"{os.path.dirname(path)}/copy.db")
+        copy_index(copy, f"{os.path.dirname(path)}/copy.db")
 
     def drive(path: str, mark: Mark) -> None:
         make(path, mark, tuple(messages[16:]), **setting)

@@ -152,7 +152,7 @@ def serve_job(program: str, folder: str) -> Job:
     new = make_index(program, f"{folder}/new.db")
     plain, states = copy_index(new, f"{folder}/plain.db"), [rows_of(new)]
     drive(plain, lambda: states.append(rows_of(copy_index(plain, f"{folder}/seen.db"))))
-    return Job("serve", lambda path: shutil.copy(new, path), drive, states)
+    return Job("serve", lambda path: copy_index(new, path), drive, states)
 
 
 def large_requests(count: int) -> list[tuple]:

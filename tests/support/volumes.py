@@ -28,6 +28,15 @@ def copy_volume(path: str, to: str) -> None:
         shutil.copy(path + VOLUME, to + VOLUME)
 
 
+def keep_copy(path: str, to: str) -> None:
+    """Copies a database that no program has open as index-backup keeps it, at this path without its end: a link leads
+    to the copy of its volume, if it has one."""
+    shutil.copy(path, f"{to}.db")
+    if os.path.exists(path + VOLUME):
+        shutil.copy(path + VOLUME, f"{to}.volume")
+        os.symlink(f"{os.path.basename(to)}.volume", f"{to}.db{VOLUME}")
+
+
 def stored(path: str, bodies: Iterable[bytes]) -> list[bytes]:
     """What `blobs` of a database has for these bytes: themselves, or their places in its volume, to whose end they are
     added."""

@@ -3,9 +3,9 @@ from __future__ import annotations
 
 import os
 import random
-import shutil
 import subprocess
 
+from support.judge import copy_index
 from support.places import BIN
 from support.running import kill_after, run_command
 from support.serving import make_index
@@ -32,8 +32,7 @@ class Logs:
         self.copies += 1
         folder = f"{self.folder}/{self.copies}"
         os.mkdir(folder)
-        for end in ("", "-wal"):
-            shutil.copy(self.whole + end, f"{folder}/index.db{end}")
+        copy_index(self.whole, f"{folder}/index.db")
         if flipped is not None:
             flip(f"{folder}/index.db-wal", flipped)
         return f"{folder}/index.db"
