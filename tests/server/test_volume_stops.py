@@ -47,8 +47,13 @@ def made(tmp_path, setting):
         make_database(f"{at}/var/index.db", OLD, version)
         run_command([f"{BIN}/index-backup", f"{at}/var/index.db", f"{at}/copies"], **setting)
         copy, = (f"{at}/copies/{it}" for it in os.listdir(f"{at}/copies") if it.endswith(".db"))
-        for end in ("", "-volume")[:version - 1]:
-            os.rename(f"{copy}{end}", f"{at}/{KEPT}{end}")
+        # of another second than a run that follows, with the copy of its volume
+        stamp, kept = copy[:-len(".db")], f"{at}/{KEPT[:-len('.db')]}"
+        for path in glob.glob(f"{stamp}.*"):
+            os.rename(path, f"{kept}{path[len(stamp):]}")
+        if os.path.lexists(f"{kept}.db-volume"):
+            os.remove(f"{kept}.db-volume")
+            os.symlink(f"{os.path.basename(kept)}.volume", f"{kept}.db-volume")
         add_file(f"{at}/var/index.db", "frob-1.2.tar.gz", NEW["frob-1.2.tar.gz"])
         delete_file(f"{at}/var/index.db", "frob-1.0.tar.gz")
         return at
