@@ -1,21 +1,13 @@
 -- The clients of any runs are sent the same bytes for one file name.
-use Rattle.std.proofs.Common.{◌≡◌, ◌⊎◌, ℕ, zero, suc, List, [], ◌∷◌, Some, Result, length, sym, subst, inl, inr, arith}
-use Rattle.std.specs.Prelude.{Contains}
+use Rattle.index.proofs.Words.{◌≡◌, ◌⊎◌, ℕ, suc, List, [], ◌∷◌, Some, Result, length, sym, subst, inl, inr, arith, Contains, ∥∥₁_elim}
+use Rattle.index.proofs.Words.{∥∥₁_map, sha256, History, IsFrontOf, IsLegal, Bytes, Tables, End, ClientGot, Carries, EndedRun, LeadTo}
+use Rattle.index.proofs.Words.{LeadsOn, Run, FindsAgain, Keeping, AnswerConnections, Task}
+use Rattle.std.proofs.Common.{zero}
 use Rattle.std.specs.Coded.{Coded-set, coded_list, coded_ℕ}
-use Rattle.std.proofs.Math.Logic.{∥∥₁_elim, ∥∥₁_map}
-use Rattle.index_digest.specs.Digest.{sha256}
-use Rattle.index_rules.specs.History.{History}
-use Rattle.index_rules.specs.Laws.{IsFrontOf}
-use Rattle.index_rules.specs.Legal.{IsLegal}
-use Rattle.index_rules.specs.Maps.{Bytes}
-use Rattle.index_rules.specs.Tables.{Tables}
 use Rattle.index_cli.specs.FilesServed.{IsServedAt}
 use Rattle.index_cli.proofs.FilesServed.{points_agree, sent_at_some_point, served_later}
-use Rattle.index.specs.declared.end.End.{End}
-use Rattle.index.specs.Agree.{AgreeThrough, ClientGot}
-use Rattle.index.specs.Chains.{Carries, EndedRun, EndedRunLeadsOn, LeadTo, LeadsOn, Run}
-use Rattle.index.specs.Keeping.{FindsAgain, Keeping}
-use Rattle.index.specs.Tasks.{AnswerConnections, Task}
+use Rattle.index.specs.Agree.{AgreeThrough}
+use Rattle.index.specs.Chains.{EndedRunLeadsOn}
 use Rattle.index.proofs.AlikeLemmas.{alike_got, all_alike, one_alike}
 use Rattle.index.proofs.ChainLemmas.{LegalFor, StandIn, carried, same_for, stand_by_run}
 use Rattle.index.proofs.GoesOnLemmas.{by_run, carried_on, there_by_run}

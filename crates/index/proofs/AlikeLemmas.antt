@@ -1,10 +1,8 @@
 -- Exchanges with known inputs and replies are known but for their moments.
-use Rattle.std.proofs.Common.{◌≡◌, ◌∙◌, ◌+◌, ℕ, suc, List, [], ◌∷◌, ◌++◌, length, length-append, Some, refl, sym, ap, subst, inl, inr}
-use Rattle.std.proofs.Common.{arith}
-use Rattle.index_rules.specs.Maps.{Bytes}
-use Rattle.index_cli.specs.Connections.{AddsReply, Came, ClientTaken, Closed, Exchange, IsUnsent, KnownList, KnownReplies, SentReply}
+use Rattle.index.proofs.Words.{◌≡◌, ◌∙◌, ◌+◌, ℕ, suc, List, [], ◌∷◌, ◌++◌, length, length-append, Some, refl, sym, ap, subst, inl, inr}
+use Rattle.index.proofs.Words.{arith, Bytes, AddsReply, Came, ClientTaken, Closed, Exchange, IsUnsent, KnownList, KnownReplies, SentReply}
+use Rattle.index.proofs.Words.{AreAmong}
 use Rattle.index_cli.specs.FilesServed.{GotFile, IsAmong}
-use Rattle.index.specs.Tasks.{AreAmong}
 
 -- two exchanges have all in common but their moments
 abbrev pub Alike : Exchange → Exchange → Type 0

@@ -1,19 +1,15 @@
 -- Why work ended early.
-use Rattle.std.proofs.Common.{◌≡◌, ◌∙◌, ℕ, true, false, Result, Ok, Err, ap, inl, inr, refl, subst, sym, IsTrue}
+use Rattle.index.proofs.Words.{◌≡◌, ◌∙◌, ℕ, true, false, Result, Ok, Err, ap, inl, inr, refl, subst, sym, IsTrue, Fault, ReportFault}
+use Rattle.index.proofs.Words.{ServeEnd, End, end_of_fault, end_of_report, end_of_serving, is_store, IsNoListening}
 use Rattle.index_rules.specs.StoreFaults.{CountsStoreFault, is_store_fault}
-use Rattle.index_rules.specs.declared.answer.Fault.{Fault}
 use Rattle.index_rules.specs.declared.answer.Fault.TheVariants as fault
 use Rattle.index_desk.specs.Reports.{reports_store}
-use Rattle.index_desk.specs.declared.desk.report.ReportFault.{ReportFault}
 use Rattle.index_desk.specs.declared.desk.report.ReportFault.TheVariants as report_fault
 use Rattle.index_cli.specs.Causes.{HaveFailed}
-use Rattle.index_cli.specs.declared.end.ServeEnd.{ServeEnd}
 use Rattle.index_cli.specs.declared.end.ServeEnd.TheVariants as serve_end
 use Rattle.index_cli.proofs.CauseLemmas.{store_counted}
-use Rattle.index.specs.declared.end.End.{End}
 use Rattle.index.specs.declared.end.End.TheVariants as end
-use Rattle.index.specs.Ends.{ServingIsCaused, StoreIsCaused, end_of_fault, end_of_report, end_of_serving, is_store}
-use Rattle.index.specs.Tasks.{IsNoListening}
+use Rattle.index.specs.Ends.{ServingIsCaused, StoreIsCaused}
 
 -- ---- serve
 

@@ -1,25 +1,13 @@
 -- The opening of two files as a database, once their lengths were asked for.
-use Rattle.std.proofs.Common.{◌≡◌, ◌∙◌, ℕ, ◌+◌, ◌&&◌, ◌==◌, Bool, true, false, List, length, Option, None, Some, IsTrue, refl, sym, ap, ap₂}
-use Rattle.std.proofs.Common.{subst, inl, inr, true≢false}
-use Rattle.std.proofs.lemmas.Bool.{cases_Bool, eqb-true}
-use Rattle.sqlite.specs.declared.error.Error.{Error}
-use Rattle.sqlite.specs.declared.FileStore.{FileStore}
-use Rattle.sqlite.specs.declared.file.Leftover.{Leftover}
-use Rattle.sqlite.specs.Files.{FailsToOpenFiles, Finds, IsBlankAs, IsCleanLeft, IsOpened, LeavesFiles, file_state, image_of}
-use Rattle.sqlite.specs.Held.{Held}
-use Rattle.sqlite.specs.Recovery.{Image}
-use Rattle.sqlite.specs.Start.{FindsIn}
-use Rattle.sqlite.specs.State.{HasCleanDisk}
-use Rattle.sqlite_disk.specs.declared.Disk.{Ghosts}
-use Rattle.sqlite_disk.specs.declared.Files.{Files}
-use Rattle.sqlite_disk.specs.Tally.{both_counts}
+use Rattle.index.proofs.Words.{◌≡◌, ◌∙◌, ℕ, ◌+◌, ◌&&◌, ◌==◌, Bool, true, false, List, length, Option, None, Some, IsTrue, refl, sym, ap}
+use Rattle.index.proofs.Words.{ap₂, subst, inl, inr, true≢false, cases_Bool, Error, FileStore, Leftover, FailsToOpenFiles, IsOpened}
+use Rattle.index.proofs.Words.{LeavesFiles, file_state, image_of, Held, Image, FindsIn, HasCleanDisk, Ghosts, Files, both_counts, Cause}
+use Rattle.index.proofs.Words.{End, cause_of_lengths, end_of_error, AreAsFound, CleanShutLeaves, IsOpenedOn, cause_of_files}
+use Rattle.std.proofs.lemmas.Bool.{eqb-true}
+use Rattle.sqlite.specs.Files.{Finds, IsBlankAs, IsCleanLeft}
 use Rattle.sqlite_store.specs.FileStore.{view}
-use Rattle.index.specs.declared.cause.Cause.{Cause}
 use Rattle.index.specs.declared.cause.Cause.TheVariants as cause
-use Rattle.index.specs.declared.end.End.{End}
-use Rattle.index.specs.Causes.{cause_of_lengths}
-use Rattle.index.specs.Ends.{end_of_error}
-use Rattle.index.specs.Openings.{AreAsFound, CleanShutLeaves, HasSumsAs, IsOpenedOn, IsWhyShut, cause_of_files}
+use Rattle.index.specs.Openings.{HasSumsAs, IsWhyShut}
 use Rattle.index.proofs.FreshLemmas.{image}
 use Rattle.index.proofs.OpeningLemmas.{no_database}
 use Rattle.index.proofs.RunLemmas.{shut_by}

@@ -1,31 +1,17 @@
 -- The history after any runs goes on from the one before them.
-use Rattle.std.proofs.Common.{◌≡◌, ℕ, List, [], ◌∷◌, Option, Some, None, Result, length, sym, subst, inl, inr}
+use Rattle.index.proofs.Words.{◌≡◌, ℕ, List, [], ◌∷◌, Option, Some, None, Result, length, sym, subst, inl, inr, longest_line}
+use Rattle.index.proofs.Words.{TextAnswersLines, TextAnswersParsedLine, LineCallsLeave, LinesEnd-choice, LeavingTables-choice}
+use Rattle.index.proofs.Words.{LineCallsLeave-choice, by_history, Line, Answer, Accepted, Already, Refused, Call, History, first_tables}
+use Rattle.index.proofs.Words.{IsFrontOf, IsLegal, history_after, Tables, End, Carries, ComesByRun, ComesByRuns, KeepsSome, LeadTo, LeadsOn}
+use Rattle.index.proofs.Words.{MayBecome, MayCarry, Run, CreatedRun, InitRun, EndedRun, CutRun, UnusedRun, ∥∥₁_map, FindsAgain, Keeping}
+use Rattle.index.proofs.Words.{AreAmong, Task, AnswerLines, AnswerConnections, WriteReport, CountWrong, itself}
 use Rattle.std.proofs.lemmas.Bool.{cases_lt}
-use Rattle.index_cli.specs.Lines.{longest_line}
-use Rattle.index_cli.specs.Telling.{TextAnswersLines, TextAnswersParsedLine}
-use Rattle.index_cli.specs.LineCalls.{LineCallsLeave}
-use Rattle.index_cli.proofs.Choices.{LinesEnd-choice, LeavingTables-choice, LineCallsLeave-choice}
-use Rattle.index_desk.specs.Rules.{by_history}
 use Rattle.index_json.specs.Line.{line_of}
-use Rattle.index_json.specs.declared.line.Line.{Line}
 use Rattle.index_json.specs.declared.line.Line.TheVariants as line
-use Rattle.index_rules.specs.declared.answer.Answer.{Answer}
-use Rattle.index_rules.specs.declared.answer.Answer.TheVariants.{Accepted, Already, Refused, Fault}
-use Rattle.index_rules.specs.declared.call.Call.{Call}
-use Rattle.index_rules.specs.History.{History}
-use Rattle.index_rules.specs.FirstTables.{first_tables}
-use Rattle.index_rules.specs.Laws.{IsFrontOf}
-use Rattle.index_rules.specs.Legal.{IsLegal, history_after}
-use Rattle.index_rules.specs.Tables.{Tables}
-use Rattle.index.specs.declared.end.End.{End}
-use Rattle.index.specs.Chains.{Carries, ComesByRun, ComesByRuns, KeepsSome, LeadTo, LeadsOn, MayBecome, MayCarry}
-use Rattle.index.specs.Chains.{Run, CreatedRun, InitRun, EndedRun, CutRun, UnusedRun}
+use Rattle.index_rules.specs.declared.answer.Answer.TheVariants.{Fault}
 use Rattle.index.specs.GoesOn.{GoesOn, StandOn}
 use Rattle.index.proofs.ChainLemmas.{stand_by_runs}
-use Rattle.std.proofs.Math.Logic.{∥∥₁_map}
-use Rattle.index.specs.Keeping.{FindsAgain, Keeping}
-use Rattle.index.specs.Tasks.{AreAmong, Task, AnswerLines, AnswerConnections, WriteReport, CountWrong}
-use Rattle.index_cli.proofs.FilesServed.{after_call, after_call_is, answered_each, as_is, itself, longer}
+use Rattle.index_cli.proofs.FilesServed.{after_call, after_call_is, answered_each, as_is, longer}
 use Rattle.index.proofs.ServedLemmas.{served_bound}
 
 -- ---- what is told of lines

@@ -33,3 +33,4 @@ pub mod RefusedLemmas
 pub mod AlikeLemmas
 pub mod AgreeLemmas
 pub mod WrongBytes
+mod Words

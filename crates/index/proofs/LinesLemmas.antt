@@ -1,22 +1,12 @@
 -- Lines that a desk answered, as a task says it.
-use Rattle.std.proofs.Common.{ℕ, List, Option, Result, refl, subst, sym}
-use Rattle.index_rules.specs.Facts.{HasOneBearer}
-use Rattle.index_rules.specs.Tables.{Tables}
-use Rattle.index_desk.specs.Crashes.{CallsLeave}
-use Rattle.index_desk.specs.ByRules.{StandsAfter}
-use Rattle.index_desk.specs.Rules.{by_history, by_tables}
+use Rattle.index.proofs.Words.{ℕ, List, Option, Result, refl, subst, sym, HasOneBearer, Tables, CallsLeave, StandsAfter, by_history}
+use Rattle.index.proofs.Words.{by_tables, LineEnd, LinesEnd, LineCallsLeave, TextAnswersFront, TextAnswersLines, end_of}
 use Rattle.index_http.specs.Steps.{DeskStep}
-use Rattle.index_cli.specs.declared.end.LineEnd.{LineEnd}
 use Rattle.index_cli.specs.DeskAnswers.{by_desk}
-use Rattle.index_cli.specs.Ends.{LinesEnd}
-use Rattle.index_cli.specs.LineCalls.{LineCallsLeave}
-use Rattle.index_cli.specs.LineFronts.{TextAnswersFront}
-use Rattle.index_cli.specs.Telling.{TextAnswersLines}
 use Rattle.index_desk.proofs.CrashLemmas.{CallsLeave-by_history}
 use Rattle.index_cli.proofs.Calls.{LineCallsLeave-map}
 use Rattle.index_cli.proofs.LineClauses.{lines_front, lines_leave}
 use Rattle.index_cli.proofs.RunEnds.{LinesEnd-map}
-use Rattle.index.specs.Ends.{end_of}
 use Rattle.index.specs.Tasks.{AnswersFirstLines, AnswersLines, LeavesLines}
 
 module _ {S : Type 0} (desk : DeskStep S) (U : Tables) (given left had has : Option (List ℕ)) (ended : Result ℕ LineEnd)

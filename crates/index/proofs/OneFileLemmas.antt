@@ -1,20 +1,11 @@
 -- An index without a volume is worked on as two files.
-use Rattle.std.proofs.Common.{◌≡◌, ◌∙◌, ℕ, List, Option, Some, None, Result, Bool, inl, inr, sym}
-use Rattle.std.specs.declared.process.ExitCode.{ExitCode}
-use Rattle.sqlite.specs.Files.{file_state}
-use Rattle.sqlite.specs.Recovery.{Image}
-use Rattle.sqlite.specs.State.{HasCleanDisk}
-use Rattle.sqlite_disk.specs.declared.Disk.{Ghosts}
-use Rattle.index_args.specs.declared.job.Job.{Job}
+use Rattle.index.proofs.Words.{◌≡◌, ◌∙◌, ℕ, List, Option, Some, None, Result, Bool, inl, inr, sym, ExitCode, file_state, Image}
+use Rattle.index.proofs.Words.{HasCleanDisk, Ghosts, Job, SinkStep, Bytes, OtherVersion, OutOfMemory, End, ComesOfInit, ComesOfRun, JobEnds}
+use Rattle.index.proofs.Words.{JobEndsBy, ComesByVolume, Task}
 use Rattle.index_args.specs.declared.job.Job.TheVariants as job
-use Rattle.index_http.specs.Steps.{SinkStep}
-use Rattle.index_rules.specs.Maps.{Bytes}
-use Rattle.index_rules.specs.declared.open.OpenFault.TheVariants.{OtherVersion, OutOfMemory, Store}
-use Rattle.index.specs.declared.end.End.{End}
-use Rattle.index.specs.Jobs.{ComesOfInit, ComesOfRun, JobEnds, JobEndsBy}
-use Rattle.index.specs.Pairs.{ComesByVolume, ComesOfOther, IsToNone, MakesByVolume, on_pair}
+use Rattle.index_rules.specs.declared.open.OpenFault.TheVariants.{Store}
+use Rattle.index.specs.Pairs.{ComesOfOther, IsToNone, MakesByVolume, on_pair}
 use Rattle.index.specs.SecondLines.{volume_of_job}
-use Rattle.index.specs.Tasks.{Task}
 
 module _ {D E : Type 0} (g : Ghosts D) (e : Ghosts E) where
   pub looks_elsewhere : (task : Task) (start : Image) (volume : List ℕ) (result : Result ℕ End)

@@ -1,25 +1,12 @@
 -- Work over a database of version 3 and its volume.
-use Rattle.std.proofs.Common.{◌≡◌, ◌∙◌, ℕ, List, Result, Ok, Err, Some, inl, inr, subst, sym, ap, true≢false}
-use Rattle.std.proofs.lemmas.Bool.{cases_Bool}
-use Rattle.std.specs.Prelude.{◌↔◌, IfErr, IsTrue, is_ok}
-use Rattle.sqlite.specs.declared.FileStore.{FileStore}
-use Rattle.sqlite.specs.Held.{Held}
-use Rattle.sqlite_disk.specs.declared.Disk.{Ghosts}
-use Rattle.sqlite_disk.specs.declared.Files.{Files}
+use Rattle.index.proofs.Words.{◌≡◌, ◌∙◌, ℕ, List, Result, Ok, Err, Some, inl, inr, subst, sym, ap, true≢false, cases_Bool, ◌↔◌, is_ok}
+use Rattle.index.proofs.Words.{FileStore, Held, Ghosts, Files, read_digest, BadFirstUser, IsBadFirstUser, Bytes, Unopened, Unclosed, End}
+use Rattle.index.proofs.Words.{Open, closing_of, end_by, is_fault_end, is_store, IsBadFirstUserByHex, IsToldOf, WorksOver, placed_side}
+use Rattle.index.proofs.Words.{Task}
+use Rattle.std.specs.Prelude.{IfErr, IsTrue}
 use Rattle.sqlite_trees.specs.declared.store.Store as store
-use Rattle.index_digest.specs.Digest.{read_digest}
-use Rattle.index_rules.specs.declared.open.OpenFault.TheVariants.{BadFirstUser}
-use Rattle.index_rules.specs.FirstTables.{IsBadFirstUser}
-use Rattle.index_rules.specs.Maps.{Bytes}
-use Rattle.index_tables.specs.declared.opening.Unopened.{Unopened}
 use Rattle.index.specs.declared.database.Left.TheVariants.{Refused}
-use Rattle.index.specs.declared.database.Unclosed.{Unclosed}
-use Rattle.index.specs.declared.end.End.{End}
-use Rattle.index.specs.declared.end.End.TheVariants.{Open}
-use Rattle.index.specs.Ends.{closing_of, end_by, is_fault_end, is_store}
-use Rattle.index.specs.Openings.{IsBadFirstUserByHex, IsToldOf}
-use Rattle.index.specs.Pairs.{AreKept, EndsOnPlaced, IsToldOver, WorksOver, placed_side}
-use Rattle.index.specs.Tasks.{Task}
+use Rattle.index.specs.Pairs.{AreKept, EndsOnPlaced, IsToldOver}
 
 -- what was done to books was done to the connection that they gave back
 pub worked_on : {S E : Type 0} (g : store.Ghosts S) (e : Ghosts E) (task : Task) (result : Result ℕ End) (first last now : Held S)

@@ -1,17 +1,10 @@
 -- The cause for which a database was refused.
-use Rattle.std.proofs.Common.{◌≡◌, refl, sym, subst, subst₂, ◌&&◌, Bool, true, false, Option, Some, None, Result, Ok, Err, is_some}
+use Rattle.index.proofs.Words.{◌≡◌, refl, sym, subst, subst₂, ◌&&◌, Bool, true, false, Option, Some, None, Result, Ok, Err, FileStore}
+use Rattle.index.proofs.Words.{tally_of_files, Ghosts, Tally, both_counts, Schema, files, Cause, SchemaHasCause, cause_of_calls}
+use Rattle.index.proofs.Words.{cause_of_store}
+use Rattle.std.proofs.Common.{is_some}
 use Rattle.std.specs.Prelude.{IfOk, IsSome}
 use Rattle.std.specs.Result.{result_unwrap_or}
-use Rattle.sqlite.specs.declared.FileStore.{FileStore}
-use Rattle.sqlite.specs.WalReads.{tally_of_files}
-use Rattle.sqlite_disk.specs.declared.Disk.{Ghosts}
-use Rattle.sqlite_disk.specs.declared.tally.Tally.{Tally}
-use Rattle.sqlite_disk.specs.Tally.{both_counts}
-use Rattle.sqlite_schema.specs.declared.schema.Schema.{Schema}
-use Rattle.sqlite_store.specs.FileStore.{files}
-use Rattle.index.specs.declared.cause.Cause.{Cause}
-use Rattle.index.specs.Causes.{SchemaHasCause, cause_of_calls}
-use Rattle.index.specs.Openings.{cause_of_store}
 
 -- the schema told it, if there is one
 pub told_by_schema : {E : Type 0} (schema : Schema) (found : Result (Option Cause) E) (cause : Option Cause)

@@ -1,14 +1,7 @@
 -- What no run may do: wrong outcomes do not meet the words of the contracts.
-use Rattle.std.proofs.Common.{◌≡◌, ◌∙◌, ◌+◌, ℕ, suc, Result, Some, refl, ap, subst, inl, inr, List, [], ◌∷◌, length, arith}
-use Rattle.index_cli.specs.Connections.{Came, ClientTaken, Exchange, KnownList, KnownReplies}
-use Rattle.sqlite.specs.Recovery.{Image}
-use Rattle.index_rules.specs.FirstTables.{first_tables}
-use Rattle.index_rules.specs.Maps.{Bytes}
-use Rattle.index_rules.specs.Tables.{Tables}
-use Rattle.index.specs.declared.end.End.{End}
-use Rattle.index.specs.Chains.{CreatedRun, CutRun, LeadsOn}
-use Rattle.index.specs.Runs.{Holds, HoldsNone, in_files}
-use Rattle.index.specs.Tasks.{AreAmong, Task}
+use Rattle.index.proofs.Words.{◌≡◌, ◌∙◌, ◌+◌, ℕ, suc, Result, Some, refl, ap, subst, inl, inr, List, [], ◌∷◌, length, arith, Came}
+use Rattle.index.proofs.Words.{ClientTaken, Exchange, KnownList, KnownReplies, Image, first_tables, Bytes, Tables, End, CreatedRun, CutRun}
+use Rattle.index.proofs.Words.{LeadsOn, Holds, HoldsNone, in_files, AreAmong, Task}
 use Rattle.index.proofs.ThereLemmas.{current_is_there, not_found}
 
 -- trees of an index are not trees that have nothing of one

@@ -1,5 +1,6 @@
 -- How many connections the rounds of a run have.
-use Rattle.std.proofs.Common.{◌≤◌, ◌<◌, ◌*◌, ◌^◌, ℕ, arith}
+use Rattle.index.proofs.Words.{◌≤◌, ◌<◌, ℕ, arith}
+use Rattle.std.proofs.Common.{◌*◌, ◌^◌}
 use Rattle.std.proofs.lemmas.Nat.{mul-le}
 
 -- two numbers of 32 bits have a product of 64

@@ -1,51 +1,28 @@
 -- From the states of a connection to the files that it was opened on and closed to.
-use Rattle.std.proofs.Common.{◌≡◌, ◌⊎◌, ◌↔◌, ◌∙◌, Bool, List, [], ◌∷◌, false, sym, ap, subst, subst₂, if◌then◌else◌, inl, inr, ℕ, Some}
-use Rattle.std.proofs.Common.{Result, Ok, Err, IfErr, IfOk, arith}
-use Rattle.std.proofs.lemmas.Bool.{cases_Bool}
-use Rattle.std.proofs.Math.Logic.{∥∥₁_elim, ∥∥₁_map}
-use Rattle.sqlite.specs.Closing.{HoldsAlone, IsCopied}
-use Rattle.sqlite.specs.declared.FileStore.{FileStore}
-use Rattle.sqlite.specs.declared.file.Leftover.{Leftover}
+use Rattle.index.proofs.Words.{◌≡◌, ◌⊎◌, ◌∙◌, Bool, List, [], ◌∷◌, false, sym, ap, subst, subst₂, if◌then◌else◌, inl, inr, ℕ, Some, Result}
+use Rattle.index.proofs.Words.{Ok, Err, IfErr, IfOk, arith, cases_Bool, ∥∥₁_elim, ∥∥₁_map, HoldsAlone, IsCopied, FileStore, Leftover}
+use Rattle.index.proofs.Words.{Database, AreFoundIn, HoldsDatabase, IsClosed, IsNothing, IsOpened, LeavesFiles, file_state, image_of}
+use Rattle.index.proofs.Words.{over_files, Held, opens_again, Image, FindsIn, HasCleanDisk, Trees, Ghosts, Files, Event, replay, Trees-set}
+use Rattle.index.proofs.Words.{IsClean, has_any_of, BadFirstUser, OutOfMemory, IsBadFirstUser, Bytes, Tables, tables_in, index_schema}
+use Rattle.index.proofs.Words.{IsCommitted, IsCurrent, IsFound, AreCurrent, IsWorking, MayLeave, Unopened, AreClean, Unclosed, HoldsOnly}
+use Rattle.index.proofs.Words.{IsCleanClosed, OpensAgain, FindsOnly, CrashLeavesOnlyTables, Created, CreatedInLog, Holds, HoldsCurrent}
+use Rattle.index.proofs.Words.{HoldsNone, Interrupted, IsMadeNew, Ran, in_files}
+use Rattle.std.proofs.Common.{◌↔◌}
 use Rattle.sqlite.specs.declared.file.Leftover.TheVariants as leftover
-use Rattle.sqlite.specs.Effect.{Database}
-use Rattle.sqlite.specs.Files.{AreFoundIn, HoldsDatabase, IsClosed, IsNothing, IsOpened, LeavesFiles, file_state, image_of, over_files}
-use Rattle.sqlite.specs.Held.{Held}
-use Rattle.sqlite.proofs.Theorems.{opens_again}
-use Rattle.sqlite.specs.Recovery.{Image}
 use Rattle.sqlite.specs.Schema.{Schema}
-use Rattle.sqlite.specs.Start.{FindsIn}
 use Rattle.sqlite.specs.WalFiles.{outcomes}
-use Rattle.sqlite.specs.State.{HasCleanDisk}
-use Rattle.sqlite.specs.Tree.{Trees}
-use Rattle.sqlite_disk.specs.declared.Disk.{Ghosts}
-use Rattle.sqlite_disk.specs.declared.Files.{Files}
-use Rattle.sqlite_disk.specs.Events.{Event, replay, settled}
+use Rattle.sqlite_disk.specs.Events.{settled}
 use Rattle.sqlite_disk.specs.History.{MayLeave as MayLeaveFile}
 use Rattle.sqlite_pool.specs.Stored.{StandsAs}
 use Rattle.sqlite_store.specs.FileStore as store
 use Rattle.sqlite_store.specs.Unopened.{state_of}
-use Rattle.sqlite_trees.specs.Props.{Trees-set}
-use Rattle.sqlite_trees.specs.View.{IsClean}
-use Rattle.index_sql_opening.specs.Names.{has_any_of}
-use Rattle.index_rules.specs.declared.open.OpenFault.TheVariants.{BadFirstUser, NotEmpty, OutOfMemory}
-use Rattle.index_rules.specs.FirstTables.{IsBadFirstUser}
-use Rattle.index_rules.specs.Maps.{Bytes}
-use Rattle.index_rules.specs.Tables.{Tables}
+use Rattle.index_rules.specs.declared.open.OpenFault.TheVariants.{NotEmpty}
 use Rattle.index_sql_schema.specs.Index.{version_in}
-use Rattle.index_sql_schema.specs.Records.{tables_in}
-use Rattle.index_sql_schema.specs.Schema.{index_schema}
-use Rattle.index_tables.specs.Adopted.{IsCommitted, IsCurrent, IsFound}
-use Rattle.index_tables.specs.BooksState.{AreCurrent, IsWorking}
-use Rattle.index_tables.specs.Reopened.{MayLeave}
 use Rattle.index_tables.specs.Opened.{IsRefusedAs, IsTaken}
-use Rattle.index_tables.specs.declared.opening.Unopened.{Unopened}
-use Rattle.sqlite.specs.WalReads.{AreClean}
-use Rattle.index.specs.declared.database.Unclosed.{Unclosed}
 use Rattle.index.proofs.ThereLemmas.{not_same, there_by}
-use Rattle.index.specs.Openings.{HoldsOnly, IsCleanClosed, OpensAgain, Refused, ShutLeaves}
-use Rattle.index.specs.Keeping.{FindsOnly}
-use Rattle.index.specs.Runs.{Began, CrashLeavesDatabase, CrashLeavesOnlyTables, Created, CreatedInLog, Holds, HoldsAfterCrash}
-use Rattle.index.specs.Runs.{HoldsCurrent, HoldsNone, Interrupted, IsMadeNew, Ran, Worked, in_files}
+use Rattle.index.specs.Openings.{Refused, ShutLeaves}
+use Rattle.index.specs.Runs.{Began, CrashLeavesDatabase, HoldsAfterCrash}
+use Rattle.index.specs.Runs.{Worked}
 
 -- an index of today is found as it is, and never as one of version 1
 same_found : (db other : Database) (T found : Tables) → IsCurrent 2 db T → IsFound other found → other.trees ≡ db.trees → found ≡ T

@@ -1,10 +1,6 @@
 -- What a client gets for a file name is what the history has of it.
-use Rattle.std.proofs.Common.{◌≡◌, Some}
-use Rattle.index_cli.proofs.FilesServed.{by_reply, itself, legal_front}
-use Rattle.index_rules.specs.History.{History}
-use Rattle.index_rules.specs.Laws.{IsFrontOf}
-use Rattle.index_rules.specs.Legal.{IsLegal}
-use Rattle.index_rules.specs.Maps.{Bytes}
+use Rattle.index.proofs.Words.{◌≡◌, Some, itself, History, IsFrontOf, IsLegal, Bytes}
+use Rattle.index_cli.proofs.FilesServed.{by_reply, legal_front}
 use Rattle.index_rules.specs.StandsFor.{body_after}
 use Rattle.index_rules.proofs.ServeLemmas.{serves_bound}
 use Rattle.index.specs.GoesOn.{BindServed, ServesFile}

@@ -1,20 +1,13 @@
 -- Connections that were answered, by what is known of them before and after.
-use Rattle.std.proofs.Common.{◌≡◌, ℕ, List, [], Option, None, Result, Ok, Err, ap, inl, inr, refl, subst, subst₂, sym, arith}
-use Rattle.index_rules.specs.Tables.{Tables}
-use Rattle.index_cli.specs.Connections.{AreOn, Came, Closed, Exchange, IsRest, KnownList, KnownReplies}
-use Rattle.index_cli.specs.declared.end.ServeEnd.{ServeEnd}
+use Rattle.index.proofs.Words.{◌≡◌, ℕ, List, [], Option, None, Result, Ok, Err, ap, inl, inr, refl, subst, subst₂, sym, arith, Tables, Came}
+use Rattle.index.proofs.Words.{Closed, Exchange, KnownList, KnownReplies, ServeEnd, CallsLeave, by_history, by_tables, History, IsLegal}
+use Rattle.index.proofs.Words.{StandsFor, End, end_of_serving, AreAmong, IsNoListening, IsServingEnd}
+use Rattle.index_cli.specs.Connections.{AreOn, IsRest}
 use Rattle.index_cli.specs.declared.end.ServeEnd.TheVariants as serve_end
 use Rattle.index_cli.specs.ServesFront.{LeavingTables, ServesFirst}
 use Rattle.index_cli.specs.Serving.{IsCount, ServesByHistory, Serves}
-use Rattle.index_desk.specs.Crashes.{CallsLeave}
-use Rattle.index_desk.specs.Rules.{by_history, by_tables}
-use Rattle.index_rules.specs.History.{History}
-use Rattle.index_rules.specs.Legal.{IsLegal}
-use Rattle.index_rules.specs.StandsFor.{StandsFor}
-use Rattle.index.specs.declared.end.End.{End}
 use Rattle.index.specs.declared.end.End.TheVariants as end
-use Rattle.index.specs.Ends.{end_of_serving}
-use Rattle.index.specs.Tasks.{AnswersConnections, AnswersFirstConnections, AreAmong, IsNoListening, IsServingEnd, IsUpTo, LeavesConnections}
+use Rattle.index.specs.Tasks.{AnswersConnections, AnswersFirstConnections, IsUpTo, LeavesConnections}
 
 -- from what gives connections to what is known of them
 pub among : {C : Type 0} (coming : C → KnownList) (replies : C → KnownReplies) (old new : C) (a a' : KnownList) (r r' : KnownReplies)

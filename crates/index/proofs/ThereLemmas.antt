@@ -1,54 +1,36 @@
 -- An index that is there is seen: no database holds one and nothing of one, and what may be left of work is not all that there could be.
-use Rattle.std.proofs.Common.{◌≡◌, ◌∙◌, ℕ, Bool, true, false, cond, ◌||◌, List, [], ◌∷◌, Option, Some, None, Result, refl, sym, ap, subst}
-use Rattle.std.proofs.Common.{inl, inr}
+use Rattle.index.proofs.Words.{◌≡◌, ◌∙◌, ℕ, Bool, true, false, cond, List, [], ◌∷◌, Option, Some, None, Result, refl, sym, ap, subst, inl}
+use Rattle.index.proofs.Words.{inr, get, ∥∥₁_elim, FileStore, Database, over_files, Image, Trees, opens_again, Ghosts, Schema}
+use Rattle.index.proofs.Words.{LineCallsLeave, LinesEnd-choice, LeavingTables-choice, LineCallsLeave-choice, by_tables, CallsLeave, Answer}
+use Rattle.index.proofs.Words.{Accepted, Already, Refused, Call, Bytes, Tables, has_any_of, index_schema, IsCurrent, IsFound, AreCurrent}
+use Rattle.index.proofs.Words.{End, OpensAgain, CrashLeavesOnlyTables, HoldsCurrent, HoldsNone, AreAmong, Task, AnswerLines}
+use Rattle.index.proofs.Words.{AnswerConnections, WriteReport, CountWrong, TaskMayLeave}
+use Rattle.std.proofs.Common.{◌||◌}
 use Rattle.std.specs.List.{AllZip}
-use Rattle.std.specs.FinMap.{get, insert, remove}
-use Rattle.std.proofs.Math.Logic.{∥∥₁_elim}
+use Rattle.std.specs.FinMap.{insert, remove}
 use Rattle.std.proofs.lemmas.Bool.{false≢true, true≢false}
-use Rattle.sqlite.specs.declared.FileStore.{FileStore}
-use Rattle.sqlite.specs.Effect.{Database}
-use Rattle.sqlite.specs.Files.{over_files}
-use Rattle.sqlite.specs.Recovery.{Image}
-use Rattle.sqlite.specs.Tree.{Trees}
-use Rattle.sqlite.proofs.Theorems.{opens_again}
 use Rattle.sqlite_catalog.specs.Listing.{IsSound, IsTableRow}
 use Rattle.sqlite_catalog.proofs.StepLemmas.{same_itself}
-use Rattle.sqlite_disk.specs.declared.Disk.{Ghosts}
 use Rattle.sqlite_schema.specs.Names.{same_name}
-use Rattle.sqlite_schema.specs.declared.schema.Schema.{Schema}
 use Rattle.sqlite_schema.specs.declared.schema.Table.{Table}
 use Rattle.sqlite_store.specs.FileStore as store
 use Rattle.sqlite_value.specs.Order.{Row}
 use Rattle.sqlite_value.specs.declared.value.Value.TheVariants.{Text}
-use Rattle.index_cli.specs.LineCalls.{LineCallsLeave}
-use Rattle.index_cli.proofs.Choices.{LinesEnd-choice, LeavingTables-choice, LineCallsLeave-choice}
-use Rattle.index_desk.specs.Rules.{by_tables}
-use Rattle.index_desk.specs.Crashes.{CallsLeave}
 use Rattle.index_names.specs.FileName as names
-use Rattle.index_rules.specs.declared.answer.Answer.{Answer}
-use Rattle.index_rules.specs.declared.answer.Answer.TheVariants.{Accepted, Already, Refused, Fault}
+use Rattle.index_rules.specs.declared.answer.Answer.TheVariants.{Fault}
 use Rattle.index_rules.specs.declared.answer.Refusal.TheVariants.{BadFileName}
-use Rattle.index_rules.specs.declared.call.Call.{Call}
 use Rattle.index_rules.specs.declared.call.Request.{Request}
 use Rattle.index_rules.specs.declared.call.Request.TheVariants.{BanFile}
 use Rattle.index_rules.specs.Effect.{tables_with_call}
 use Rattle.index_rules.specs.Facts.{facts_in}
-use Rattle.index_rules.specs.Maps.{Bytes, TextSet, same}
+use Rattle.index_rules.specs.Maps.{TextSet, same}
 use Rattle.index_rules.specs.Requests.{read_file}
 use Rattle.index_rules.specs.Runs.{tables_after}
-use Rattle.index_rules.specs.Tables.{Tables}
 use Rattle.index_rules.specs.Verdict.{Accept, verdict_now}
 use Rattle.index_rules.proofs.Accepted.{accepted}
 use Rattle.index_rules.proofs.KeyLemmas.{cases_same, get-put, get-without, same-refl}
 use Rattle.index_rules.proofs.PastReading.{read_itself}
-use Rattle.index_sql_opening.specs.Names.{has_any_of, has_table}
-use Rattle.index_sql_schema.specs.Schema.{index_schema}
-use Rattle.index_tables.specs.Adopted.{IsCurrent, IsFound}
-use Rattle.index_tables.specs.BooksState.{AreCurrent}
-use Rattle.index.specs.declared.end.End.{End}
-use Rattle.index.specs.Openings.{OpensAgain}
-use Rattle.index.specs.Runs.{CrashLeavesOnlyTables, HoldsCurrent, HoldsNone}
-use Rattle.index.specs.Tasks.{AreAmong, Task, AnswerLines, AnswerConnections, WriteReport, CountWrong, TaskMayLeave}
+use Rattle.index_sql_opening.specs.Names.{has_table}
 
 -- ---- a list of objects has one first table
 

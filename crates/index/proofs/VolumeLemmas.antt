@@ -1,33 +1,20 @@
 -- An index in two files and a volume is found again, and a close leaves it there.
-use Rattle.std.proofs.Common.{◌≡◌, ◌∙◌, ap, inl, inr, None, Some, option_map, sym, subst, ℕ, ◌≤◌, List, length, take}
-use Rattle.std.specs.FinMap.{empty, get, get-empty, same_map}
+use Rattle.index.proofs.Words.{◌≡◌, ◌∙◌, ap, inl, inr, None, Some, sym, subst, ℕ, ◌≤◌, List, length, take, get, ∥∥₁_elim, FileStore}
+use Rattle.index.proofs.Words.{HoldsAlone, IsCopied, Database, file_state, Held, Image, Ghosts, Files, Trees-set, first_tables, Bytes}
+use Rattle.index.proofs.Words.{Tables, tables_in, IsCommitted, IsCurrent, Fits, over, HoldsPlaced, HoldsPlacedAlone, IsNextPair, IsNextOf}
+use Rattle.index.proofs.Words.{Pair, in_volume, FindsAgain, HoldsNone}
+use Rattle.std.proofs.Common.{option_map}
+use Rattle.std.specs.FinMap.{empty, get-empty, same_map}
 use Rattle.std.proofs.lemmas.Cmp.{nat_list_cmp_total}
 use Rattle.std.proofs.lemmas.Map.Lookups.{exact_bytes}
-use Rattle.std.proofs.Math.Logic.{∥∥₁_elim}
-use Rattle.sqlite.specs.declared.FileStore.{FileStore}
-use Rattle.sqlite.specs.Closing.{HoldsAlone, IsCopied}
-use Rattle.sqlite.specs.Effect.{Database}
-use Rattle.sqlite.specs.Files.{file_state}
-use Rattle.sqlite.specs.Held.{Held}
-use Rattle.sqlite.specs.Recovery.{Image}
-use Rattle.sqlite_disk.specs.declared.Disk.{Ghosts}
-use Rattle.sqlite_disk.specs.declared.Files.{Files}
-use Rattle.sqlite_trees.specs.Props.{Trees-set}
-use Rattle.index_rules.specs.FirstTables.{first_tables}
-use Rattle.index_rules.specs.Maps.{Bytes, Map, bytes_cmp}
-use Rattle.index_rules.specs.Tables.{Tables}
+use Rattle.index_rules.specs.Maps.{Map, bytes_cmp}
 use Rattle.index_rules.proofs.KeyLemmas.{get-change_values}
-use Rattle.index_sql_schema.specs.Records.{tables_in}
-use Rattle.index_tables.specs.Adopted.{IsCommitted, IsCurrent}
 use Rattle.index_volume.specs.Places.{bytes_at}
 use Rattle.index_volume.specs.Volume.{Keeps}
 use Rattle.index_volume.proofs.FileLemmas.{front_long}
-use Rattle.index_volume_books.specs.Over.{Fits, over}
 use Rattle.index_volume_books.specs.OverLaws.{over_same}
 use Rattle.index_volume_books.proofs.ThroughLemmas.{fits_more}
-use Rattle.index.specs.InVolume.{AreWhole, HoldsPlaced, HoldsPlacedAlone, IsNextPair, IsNextOf, Pair, in_volume}
-use Rattle.index.specs.Keeping.{FindsAgain}
-use Rattle.index.specs.Runs.{HoldsNone}
+use Rattle.index.specs.InVolume.{AreWhole}
 use Rattle.index.proofs.ThereLemmas.{no_proof, not_current}
 
 -- one database has one set of places

@@ -1,35 +1,15 @@
 -- Work over a database and its volume leads from the pair that it found to the next one.
-use Rattle.std.proofs.Common.{◌≡◌, ◌∙◌, ap, inl, inr, false, refl, subst, sym, ℕ, List, Result, Ok, Err, IfOk, IsTrue, None, Some, length}
-use Rattle.sqlite.specs.Closing.{IsCopied}
-use Rattle.sqlite.specs.declared.FileStore.{FileStore}
-use Rattle.sqlite.specs.Effect.{Database, IsDatabase}
-use Rattle.sqlite.specs.Files.{file_state, over_files}
-use Rattle.sqlite.specs.Held.{Held}
-use Rattle.sqlite.specs.Recovery.{Image}
-use Rattle.sqlite.specs.WalReads.{AreClean}
-use Rattle.sqlite_disk.specs.declared.Disk.{Ghosts}
-use Rattle.sqlite_disk.specs.declared.Files.{Files}
-use Rattle.index_rules.specs.declared.open.OpenFault.{OpenFault}
-use Rattle.index_rules.specs.FirstTables.{first_tables}
-use Rattle.index_rules.specs.Maps.{Bytes}
-use Rattle.index_rules.specs.Tables.{Tables}
-use Rattle.index_sql_opening.specs.Names.{has_any_of}
-use Rattle.index_sql_reads.specs.ConnectionTables.{tables_of}
-use Rattle.index_sql_schema.specs.Schema.{index_schema}
+use Rattle.index.proofs.Words.{◌≡◌, ◌∙◌, ap, inl, inr, false, refl, subst, sym, ℕ, List, Result, Ok, Err, IfOk, IsTrue, None, Some, length}
+use Rattle.index.proofs.Words.{IsCopied, FileStore, Database, file_state, over_files, Held, Image, AreClean, Ghosts, Files, OpenFault}
+use Rattle.index.proofs.Words.{first_tables, Bytes, Tables, has_any_of, tables_of, index_schema, BooksState, IsHonest, IsWorking}
+use Rattle.index.proofs.Words.{IsCommitted, AreNew, TakesPlaced, Fits, over, Unclosed, End, CreatedRun, EndedRun, LeadsOn, HoldsPlaced}
+use Rattle.index.proofs.Words.{HoldsPlacedAlone, IsNextPair, IsNextOf, Pair, in_volume, HoldsOnly, IsOpenedOn, IsWhyUnfound, placed_side}
+use Rattle.index.proofs.Words.{Task}
+use Rattle.sqlite.specs.Effect.{IsDatabase}
 use Rattle.index_sql_schema.proofs.BearerLemmas.{one_bearer}
-use Rattle.index_tables.specs.BooksState.{BooksState, IsHonest, IsWorking}
-use Rattle.index_tables.specs.Adopted.{IsCommitted}
-use Rattle.index_tables.specs.Opened.{AreNew}
-use Rattle.index_tables.specs.Placed.{TakesPlaced}
-use Rattle.index_volume_books.specs.Over.{Fits, over}
 use Rattle.index_volume_books.specs.Through.{both_tables}
-use Rattle.index.specs.declared.database.Unclosed.{Unclosed}
-use Rattle.index.specs.declared.end.End.{End}
-use Rattle.index.specs.Chains.{CreatedRun, EndedRun, LeadsOn}
-use Rattle.index.specs.InVolume.{AllClean, HoldsPlaced, HoldsPlacedAlone, IsNextPair, IsNextOf, Pair, in_volume}
-use Rattle.index.specs.Openings.{HoldsOnly, IsOpenedOn, IsWhyUnfound}
-use Rattle.index.specs.Pairs.{EndsOver, HasDatabaseOf, IsDatabaseOf, LeavesToNext, TookAndRan, placed_side}
-use Rattle.index.specs.Tasks.{Task}
+use Rattle.index.specs.InVolume.{AllClean}
+use Rattle.index.specs.Pairs.{EndsOver, HasDatabaseOf, IsDatabaseOf, LeavesToNext, TookAndRan}
 use Rattle.index.proofs.RunLemmas.{only_of, working_of}
 use Rattle.index.proofs.VolumeLemmas.{image_to_next, left_to_next, no_places}
 

@@ -1,15 +1,11 @@
 -- A client who is sent other bytes than one before him does not meet the law of any two clients.
-use Rattle.std.proofs.Common.{List, [], ◌∷◌, ◌++◌, Some, None, Ok, refl, subst, inl, inr}
-use Rattle.std.specs.Prelude.{Contains}
+use Rattle.index.proofs.Words.{List, [], ◌∷◌, ◌++◌, Some, None, Ok, refl, subst, inl, inr, Contains, IsMessage, Whole, Bytes, Exchange}
+use Rattle.index.proofs.Words.{no_faults, ClientGot, Run}
 use Rattle.std.proofs.lemmas.List.Elements.{Contains-append_left, Contains-push, Contains-push_cases}
 use Rattle.index_message.specs.Fields.{Field}
-use Rattle.index_message.specs.Messages.{IsMessage}
-use Rattle.index_message.specs.declared.message.Message.TheVariants.{Whole}
-use Rattle.index_rules.specs.Maps.{Bytes}
-use Rattle.index_cli.specs.Connections.{Exchange, exchange_of, no_faults}
+use Rattle.index_cli.specs.Connections.{exchange_of}
 use Rattle.index_cli.specs.FilesServed.{get_of_file}
-use Rattle.index.specs.Agree.{ClientGot, RefutesDisagreement, file_sent, run_of_client}
-use Rattle.index.specs.Chains.{Run}
+use Rattle.index.specs.Agree.{RefutesDisagreement, file_sent, run_of_client}
 
 -- the client of the run got these bytes
 client_got : (input file body bytes : Bytes) (fields : List Field) → IsMessage input (Whole (get_of_file file fields) body)

@@ -1,10 +1,8 @@
 -- Wrong outcomes of calls, of lines and of replies do not meet the words of the contracts.
-use Rattle.std.proofs.Common.{◌≡◌, ℕ, true, false, Result, Ok, Err, refl, ap, subst, sym}
+use Rattle.index.proofs.Words.{◌≡◌, ℕ, true, false, Result, Ok, Err, refl, ap, subst, sym, is_ok, LineEnd}
 use Rattle.index_rules.specs.Runs.{Runs}
-use Rattle.std.specs.Prelude.{is_ok}
 use Rattle.index_io.specs.declared.sink.Sink.{Ghosts as Outs}
 use Rattle.index_io.specs.declared.source.Source.{Ghosts as Ins}
-use Rattle.index_cli.specs.declared.end.LineEnd.{LineEnd}
 use Rattle.index_cli.specs.declared.end.LineEnd.TheVariants as line_end
 use Rattle.index_rules.specs.declared.books.Books.{Ghosts}
 use Rattle.index.specs.RefutedCalls.{RefutesEachCall, RefutesStreams}

@@ -1,23 +1,13 @@
 -- Replies that were dropped do not meet the words of the contracts.
-use Rattle.std.proofs.Common.{◌≡◌, ◌∙◌, ◌⊎◌, ◌<◌, ℕ, Bool, List, [], ◌∷◌, length, Option, Some, None, Result, Ok, Err, refl, sym, ap, subst}
-use Rattle.std.proofs.Common.{inl, inr, arith}
-use Rattle.std.specs.Io.KnownBytes.{Appends, Keeps}
-use Rattle.index_desk.specs.Rules.{Rules, by_history, by_tables}
-use Rattle.index_message.specs.declared.message.Message.{Message}
-use Rattle.index_message.specs.declared.message.Message.TheVariants.{Faulty, Whole}
-use Rattle.index_http.specs.Ends.{ReplyEnds}
-use Rattle.index_http.specs.Exchanges.{MessageGetsText}
-use Rattle.index_http.specs.Replies.{Reply, head_text, message_reply, reply_head, reply_text}
-use Rattle.index_http.specs.Shows.{GivesMessage, asks_page}
-use Rattle.index_http.specs.declared.connection.IoEnd.{IoEnd}
+use Rattle.index.proofs.Words.{◌≡◌, ◌∙◌, ◌⊎◌, ◌<◌, ℕ, Bool, List, [], ◌∷◌, length, Option, Some, None, Result, Ok, Err, refl, sym, ap}
+use Rattle.index.proofs.Words.{subst, inl, inr, arith, Appends, Keeps, Rules, by_history, by_tables, Message, Faulty, Whole, ReplyEnds}
+use Rattle.index.proofs.Words.{MessageGetsText, head_text, message_reply, reply_head, reply_text, GivesMessage, asks_page, IoEnd, AddsReply}
+use Rattle.index.proofs.Words.{ClientTaken, Exchange, IsUnsent, KnownList, KnownReplies, SentReply, StreamFaults, no_faults, Bytes, Tables}
+use Rattle.index.proofs.Words.{AreAmong}
+use Rattle.index_http.specs.Replies.{Reply}
 use Rattle.index_http.specs.declared.connection.IoEnd.TheVariants as io_end
-use Rattle.index_cli.specs.Connections.{AddsReply, ClientTaken, Exchange, IsUnsent, KnownList, KnownReplies, SentReply, StreamFaults}
-use Rattle.index_cli.specs.Connections.{no_faults}
 use Rattle.index_cli.specs.Serving.{ExchangeIsAnswered, ExchangesAreAnswered, EndHasCause}
-use Rattle.index_rules.specs.Maps.{Bytes}
-use Rattle.index_rules.specs.Tables.{Tables}
 use Rattle.index.specs.RefutedDrops.{RefutesDrops, RefutesSilence, RefutesUnreplied, nothing_sent}
-use Rattle.index.specs.Tasks.{AreAmong}
 
 -- ---- an exchange without a fault
 

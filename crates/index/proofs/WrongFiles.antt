@@ -1,19 +1,13 @@
 -- Wrong openings of two files do not meet the words of the contracts.
-use Rattle.std.proofs.Common.{◌≡◌, ◌∙◌, ◌⊎◌, ◌==◌, ℕ, Bool, true, false, Option, Some, IsTrue, length, nat_le, refl, sym, ap, inl, inr}
-use Rattle.std.proofs.Common.{arith}
-use Rattle.std.proofs.lemmas.Bool.{cases_Bool}
-use Rattle.sqlite.specs.declared.file.Leftover.{Leftover}
+use Rattle.index.proofs.Words.{◌≡◌, ◌∙◌, ◌⊎◌, ◌==◌, ℕ, Bool, true, false, Option, Some, IsTrue, length, nat_le, refl, sym, ap, inl, inr}
+use Rattle.index.proofs.Words.{arith, cases_Bool, Leftover, Image, Ghosts, to_sink, Cause, cause_of_lengths, End, HoldsSome}
+use Rattle.index.proofs.Words.{IsWhyNoDatabase}
 use Rattle.sqlite.specs.Files.{faults_left}
-use Rattle.sqlite.specs.Recovery.{Image}
-use Rattle.sqlite_disk.specs.declared.Disk.{Ghosts}
-use Rattle.index_http.specs.Steps.{to_sink}
 use Rattle.index_io.specs.declared.sink.Sink.{Ghosts as Outs}
-use Rattle.index.specs.declared.cause.Cause.{Cause}
 use Rattle.index.specs.declared.cause.Cause.TheVariants as cause
-use Rattle.index.specs.Causes.{cause_of_lengths, log_with_a_page}
-use Rattle.index.specs.declared.end.End.{End}
+use Rattle.index.specs.Causes.{log_with_a_page}
 use Rattle.index.specs.declared.end.End.TheVariants as end
-use Rattle.index.specs.Openings.{HoldsSome, IsWhyForbidden, IsWhyNoDatabase}
+use Rattle.index.specs.Openings.{IsWhyForbidden}
 use Rattle.index.specs.Refuted.{RefutesOpening}
 use Rattle.index.specs.RefutedJobs.{RefutesFiles}
 use Rattle.index.proofs.WrongJobs.{refutes_causes, refutes_first_user, refutes_jobs, refutes_program, refutes_status, refutes_told}

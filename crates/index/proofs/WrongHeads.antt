@@ -1,12 +1,10 @@
 -- A head with another status is another head, and the reply to a fault is no reply to a bad head.
-use Rattle.std.proofs.Common.{◌≡◌, ◌∙◌, ◌<◌, ℕ, Bool, List, ◌++◌, take, drop, refl, sym, ap, arith}
+use Rattle.index.proofs.Words.{◌≡◌, ◌∙◌, ◌<◌, ℕ, Bool, List, ◌++◌, take, drop, refl, sym, ap, arith, BadHead, head_text, message_reply}
+use Rattle.index.proofs.Words.{reply_head, reply_text, Fault, Bytes}
 use Rattle.index_cli.proofs.FilesServed.{digits_of, same_digits}
-use Rattle.index_message.specs.declared.fault.MessageFault.TheVariants.{BadHead}
-use Rattle.index_http.specs.Replies.{answer_reply, head_text, message_reply, reply_head, reply_text}
+use Rattle.index_http.specs.Replies.{answer_reply}
 use Rattle.index_http.proofs.FaultReplies.{no_fault_reply as other_reply}
 use Rattle.index_rules.specs.declared.answer.Answer.TheVariants as answer
-use Rattle.index_rules.specs.declared.answer.Fault.{Fault}
-use Rattle.index_rules.specs.Maps.{Bytes}
 
 -- what is behind the version of a head
 abbrev behind_version : List ℕ → List ℕ

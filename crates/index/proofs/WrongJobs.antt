@@ -1,51 +1,27 @@
 -- Wrong ends of jobs and of the program, and wrong causes, do not meet the words of the contracts.
-use Rattle.std.proofs.Common.{◌≡◌, ◌∙◌, ℕ, Bool, true, false, not, ◌==◌, ◌&&◌, [], Option, Some, None, Result, Ok, Err, refl, sym, ap}
-use Rattle.std.proofs.Common.{subst, inl, inr, arith}
-use Rattle.std.specs.Prelude.{◌↔◌, IfOk, IfErr, IsErr, IsErrAnd, if◌then◌else◌, is_err, is_some}
+use Rattle.index.proofs.Words.{◌≡◌, ◌∙◌, ℕ, Bool, true, false, ◌==◌, ◌&&◌, [], Option, Some, None, Result, Ok, Err, refl, sym, ap, subst}
+use Rattle.index.proofs.Words.{inl, inr, arith, ◌↔◌, IsErrAnd, is_some, ExitCode, file_state, Image, AreClean, tally_of_files, FileStore}
+use Rattle.index.proofs.Words.{files, Ghosts, Files, Tally, Schema, Job, ReportFault, read_digest, sha256, SinkStep, OpenFault}
+use Rattle.index.proofs.Words.{IsBadFirstUser, Bytes, Tables, read_user, Cause, Finished, Left, Unclosed, Unused, End, SchemaHasCause}
+use Rattle.index.proofs.Words.{cause_of_calls, closing_of, end_by, end_of_report, is_store, ComesOfInit, ComesOfRun, IsStatusOf, JobEnds}
+use Rattle.index.proofs.Words.{IsBadFirstUserByHex, IsToldOf, cause_of_store, HoldsNoIndex, Holds, HoldsNone, InitEndsOnFiles, Ran}
+use Rattle.index.proofs.Words.{RunEndsOnFiles, CountWrong, Does, Task, WriteReport}
+use Rattle.std.proofs.Common.{not}
+use Rattle.std.specs.Prelude.{IfOk, IfErr, IsErr, if◌then◌else◌, is_err}
 use Rattle.std.specs.Process.{exit_status}
-use Rattle.std.specs.declared.process.ExitCode.{ExitCode}
-use Rattle.sqlite.specs.Files.{file_state}
-use Rattle.sqlite.specs.Recovery.{Image}
-use Rattle.sqlite.specs.WalReads.{AreClean, tally_of_files}
-use Rattle.sqlite.specs.declared.FileStore.{FileStore}
-use Rattle.sqlite_store.specs.FileStore.{files}
-use Rattle.sqlite_disk.specs.declared.Disk.{Ghosts}
-use Rattle.sqlite_disk.specs.declared.Files.{Files}
-use Rattle.sqlite_disk.specs.declared.tally.Tally.{Tally}
-use Rattle.sqlite_schema.specs.declared.schema.Schema.{Schema}
-use Rattle.index_args.specs.declared.job.Job.{Job}
 use Rattle.index_args.specs.declared.job.Job.TheVariants as job
 use Rattle.index_desk.specs.Checks.{wrong_charges_in}
 use Rattle.index_desk.specs.Reports.{Reports, report_in}
-use Rattle.index_desk.specs.declared.desk.report.ReportFault.{ReportFault}
-use Rattle.index_digest.specs.Digest.{read_digest, sha256}
-use Rattle.index_http.specs.Steps.{SinkStep}
-use Rattle.index_rules.specs.declared.open.OpenFault.{OpenFault}
 use Rattle.index_rules.specs.declared.open.OpenFault.TheVariants as open_fault
-use Rattle.index_rules.specs.FirstTables.{IsBadFirstUser}
-use Rattle.index_rules.specs.Maps.{Bytes}
-use Rattle.index_rules.specs.Tables.{Tables}
-use Rattle.index_rules.specs.Users.{read_user}
-use Rattle.index.specs.declared.cause.Cause.{Cause}
 use Rattle.index.specs.declared.cause.Cause.TheVariants as cause
-use Rattle.index.specs.declared.database.Finished.{Finished}
-use Rattle.index.specs.declared.database.Left.{Left}
 use Rattle.index.specs.declared.database.Left.TheVariants as unused
-use Rattle.index.specs.declared.database.Unclosed.{Unclosed}
-use Rattle.index.specs.declared.database.Unused.{Unused}
-use Rattle.index.specs.declared.end.End.{End}
 use Rattle.index.specs.declared.end.End.TheVariants as end
-use Rattle.index.specs.Causes.{SchemaHasCause, cause_of_calls}
-use Rattle.index.specs.Ends.{closing_of, end_by, end_of_report, end_of_reporting, is_store}
-use Rattle.index.specs.Jobs.{ComesOfInit, ComesOfRun, IsStatusOf, IsStatusOfCheck, IsStatusOfInit, JobEnds, had_by, has_by}
-use Rattle.index.specs.Openings.{IsBadFirstUserByHex, IsToldOf, cause_of_store}
-use Rattle.index.specs.Refuted.{HoldsNoIndex}
+use Rattle.index.specs.Ends.{end_of_reporting}
+use Rattle.index.specs.Jobs.{IsStatusOfCheck, IsStatusOfInit, had_by, has_by}
 use Rattle.index.specs.RefutedJobs.{AreAllClean, NamesFirstUser, RefutesCauses, RefutesFirstUser, RefutesJobs, RefutesProgram}
 use Rattle.index.specs.RefutedJobs.{RefutesStatus, RefutesTold, RefutesUserCauses, Wrote, counts_charges, has_no_cause, is_refused}
 use Rattle.index.specs.RefutedJobs.{makes_index, works_on_index, writes_report}
-use Rattle.index.specs.Runs.{Holds, HoldsNone, InitEndsOnFiles, Ran, RunEndsOnFiles}
 use Rattle.index.specs.SecondLines.{IsWhyBadFirstUser, JobPrintsCause, cause_of_open}
-use Rattle.index.specs.Tasks.{CountWrong, Does, Task, WriteReport}
 use Rattle.index.proofs.WrongLemmas.{is_no_error, no_end, number_in, refutes_init, refutes_work}
 
 no_truth : true ≡ false → ⊥

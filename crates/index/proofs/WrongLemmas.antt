@@ -1,31 +1,14 @@
 -- Wrong outcomes do not meet the words of the contracts.
-use Rattle.std.proofs.Common.{◌≡◌, ◌∙◌, ◌⊎◌, ◌+◌, ◌&&◌, ℕ, suc, Bool, true, false, Option, None, Some, Result, Ok, Err, refl, sym, ap, inl}
-use Rattle.std.proofs.Common.{inr, List, [], length, arith}
-use Rattle.std.specs.Prelude.{IfOk, IfErr, IsErrAnd, if◌then◌else◌, is_ok}
-use Rattle.sqlite.specs.Files.{image_of}
-use Rattle.sqlite.specs.Recovery.{Image}
-use Rattle.sqlite.specs.WalReads.{AreClean}
-use Rattle.sqlite_disk.specs.declared.Disk.{Ghosts}
-use Rattle.sqlite_disk.specs.declared.Files.{Files}
-use Rattle.index_cli.specs.Connections.{Exchange, KnownList, KnownReplies}
-use Rattle.index_cli.specs.declared.end.LineEnd.{LineEnd}
-use Rattle.index_cli.specs.declared.end.ServeEnd.{ServeEnd}
-use Rattle.index_cli.specs.Ends.{LinesEnd, Telling}
-use Rattle.index_cli.specs.Lines.{lines_of}
-use Rattle.index_rules.specs.FirstTables.{first_tables}
-use Rattle.index_rules.specs.Maps.{Bytes}
-use Rattle.index_rules.specs.Tables.{Tables}
-use Rattle.index.specs.declared.cause.Cause.{Cause}
-use Rattle.index.specs.declared.database.Finished.{Finished}
-use Rattle.index.specs.declared.database.Unclosed.{Unclosed}
-use Rattle.index.specs.declared.database.Unused.{Unused}
-use Rattle.index.specs.declared.end.End.{End}
+use Rattle.index.proofs.Words.{◌≡◌, ◌∙◌, ◌⊎◌, ◌+◌, ◌&&◌, ℕ, suc, Bool, true, false, Option, None, Some, Result, Ok, Err, refl, sym, ap, inl}
+use Rattle.index.proofs.Words.{inr, List, [], length, arith, IsErrAnd, is_ok, image_of, Image, AreClean, Ghosts, Files, Exchange, KnownList}
+use Rattle.index.proofs.Words.{KnownReplies, LineEnd, ServeEnd, LinesEnd, lines_of, first_tables, Bytes, Tables, Cause, Finished, Unclosed}
+use Rattle.index.proofs.Words.{Unused, End, closing_of, end_by, end_of, end_of_serving, is_store, HoldsNoIndex, IsCleanClosed, IsToldOf}
+use Rattle.index.proofs.Words.{cause_of_files, Created, InitEndsOnFiles, RunEndsOnFiles, HoldsNone, Ran, AreAmong, Does, IsServingEnd, Task}
+use Rattle.std.specs.Prelude.{IfOk, IfErr, if◌then◌else◌}
+use Rattle.index_cli.specs.Ends.{Telling}
 use Rattle.index.specs.declared.end.End.TheVariants as end
-use Rattle.index.specs.Ends.{closing_of, end_by, end_of, end_of_serving, is_store}
-use Rattle.index.specs.Refuted.{HoldsNoIndex, RefutesConnections, RefutesInit, RefutesLines, RefutesTasks, RefutesWork}
-use Rattle.index.specs.Openings.{IsCleanClosed, IsToldOf, cause_of_files}
-use Rattle.index.specs.Runs.{Created, DigestHas, InitEndsOnFiles, RunEndsOnFiles, HoldsNone, Ran}
-use Rattle.index.specs.Tasks.{AreAmong, Does, IsServingEnd, Task}
+use Rattle.index.specs.Refuted.{RefutesConnections, RefutesInit, RefutesLines, RefutesTasks, RefutesWork}
+use Rattle.index.specs.Runs.{DigestHas}
 use Rattle.index.proofs.RefutedLemmas.{came_fewer}
 use Rattle.index.proofs.ThereLemmas.{current_is_there}
 

@@ -1,21 +1,16 @@
 -- Wrong counts of faults, and wrong answers to lines, do not meet the words of the contracts.
-use Rattle.std.proofs.Common.{◌≡◌, ◌≢◌, ◌∙◌, ◌+◌, ◌<◌, ℕ, List, [], ◌∷◌, ◌++◌, length, Option, Some, None, Ok, refl, sym, ap, subst, inl}
-use Rattle.std.proofs.Common.{inr, arith, append-nil, length-append}
-use Rattle.std.proofs.lemmas.List.{append_assoc, append_cancel_left, append_cancel_right}
+use Rattle.index.proofs.Words.{◌≡◌, ◌∙◌, ◌+◌, ◌<◌, ℕ, List, [], ◌∷◌, ◌++◌, length, Option, Some, None, Ok, refl, sym, ap, subst, inl, inr}
+use Rattle.index.proofs.Words.{arith, append-nil, length-append, append_cancel_left, LinesEnd, AddsReply, SentReply, StreamFaults, lines_of}
+use Rattle.index.proofs.Words.{longest_line, TextAnswersLines, TextAnswersFront, Rules, by_history, by_tables, answer_text_of}
+use Rattle.index.proofs.Words.{bad_body_text, Store, Bytes, Tables}
+use Rattle.std.proofs.Common.{◌≢◌}
+use Rattle.std.proofs.lemmas.List.{append_assoc, append_cancel_right}
 use Rattle.std.proofs.lemmas.List.Elements.{All-head, All-tail}
 use Rattle.index_io.specs.Counts.{last_count}
 use Rattle.index_cli.specs.Causes.{LinesReportFaults}
-use Rattle.index_cli.specs.Ends.{LinesEnd}
-use Rattle.index_cli.specs.Connections.{AddsReply, SentReply, StreamFaults}
-use Rattle.index_cli.specs.Lines.{Charges, HasNoFeed, PartIsTaken, TakesLine, line_feed, lines_of, longest_line}
-use Rattle.index_cli.specs.Telling.{TextAnswersLines}
-use Rattle.index_cli.specs.LineFronts.{TextAnswersFront, TextAnswersToFault}
-use Rattle.index_desk.specs.Rules.{Rules, by_history, by_tables}
-use Rattle.index_json.specs.AnswerText.{answer_text_of, bad_body_text}
+use Rattle.index_cli.specs.Lines.{Charges, HasNoFeed, PartIsTaken, TakesLine, line_feed}
+use Rattle.index_cli.specs.LineFronts.{TextAnswersToFault}
 use Rattle.index_rules.specs.declared.answer.Answer.TheVariants as answer
-use Rattle.index_rules.specs.declared.answer.Fault.TheVariants.{Store}
-use Rattle.index_rules.specs.Maps.{Bytes}
-use Rattle.index_rules.specs.Tables.{Tables}
 use Rattle.index.specs.RefutedLines.{RefutesAdded, RefutesCounts, RefutesFaults, RefutesLineCounts, RefutesLongLine, RefutesNumbers}
 use Rattle.index.specs.RefutedLines.{RefutesStoreLine, store_line, with_feed}
 use Rattle.index.proofs.WrongTexts.{accepted_is_told, store_is_told}

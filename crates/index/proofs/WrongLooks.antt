@@ -1,5 +1,5 @@
 -- Wrong outcomes of looks and of reports do not meet the words of the contracts.
-use Rattle.std.proofs.Common.{◌≡◌, ◌∙◌, Some, refl, sym, subst}
+use Rattle.index.proofs.Words.{◌≡◌, ◌∙◌, Some, refl, sym, subst}
 use Rattle.index_io.specs.declared.sink.Sink.{Ghosts as Outs}
 use Rattle.index_rules.specs.declared.books.Books.{Ghosts}
 use Rattle.index_rules.specs.declared.records.FileRecord.{FileRecord}

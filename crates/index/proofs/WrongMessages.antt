@@ -1,31 +1,24 @@
 -- Wrong readings of an input, and wrong pages, do not meet the words of the contracts.
-use Rattle.std.proofs.Common.{◌≡◌, ◌∙◌, ◌+◌, ◌<◌, ◌≤◌, ℕ, Bool, true, false, [], ◌++◌, length, Option, Some, None, Result, Ok, Err, refl}
-use Rattle.std.proofs.Common.{sym, ap, subst, inl, inr, arith, append-nil, length-append, if◌then◌else◌, nat_le, take}
-use Rattle.std.specs.Io.KnownBytes.{Appends}
+use Rattle.index.proofs.Words.{◌≡◌, ◌∙◌, ◌+◌, ◌<◌, ◌≤◌, ℕ, Bool, true, false, [], ◌++◌, length, Option, Some, None, Result, Ok, Err, refl}
+use Rattle.index.proofs.Words.{sym, ap, subst, inl, inr, arith, append-nil, length-append, if◌then◌else◌, nat_le, take, Appends}
+use Rattle.index.proofs.Words.{LeavesTables, by_history, by_tables, Takes, HasHead, HasNoHead, IsMessage, begins_with_head, BadHead}
+use Rattle.index.proofs.Words.{Message, Faulty, Whole, GivesMessage, asks_page, IoEnd, History, Bytes}
 use Rattle.std.proofs.lemmas.Bool.Decides.{nat_tests}
 use Rattle.index_io.specs.declared.sink.Sink.{Ghosts as Outs}
-use Rattle.index_desk.specs.Looks.{LeavesTables}
-use Rattle.index_desk.specs.Rules.{by_history, by_tables}
-use Rattle.index_desk.specs.Takes.{Takes}
 use Rattle.index_message.specs.Fields.{fields_of}
-use Rattle.index_message.specs.Heads.{HasHead, HasNoHead, longest_head}
-use Rattle.index_message.specs.Messages.{AwaitsBody, EndsUnfinished, IsMessage, IsUnfinished, MayHaveHead, begins_with_head, is_faulty}
+use Rattle.index_message.specs.Heads.{longest_head}
+use Rattle.index_message.specs.Messages.{AwaitsBody, EndsUnfinished, IsUnfinished, MayHaveHead, is_faulty}
 use Rattle.index_message.specs.Messages.{is_head_name, message_by, message_of, whole_of}
 use Rattle.index_message.specs.Reads.{BytesTakenAtMost}
 use Rattle.index_message.specs.Requests.{HttpRequest}
 use Rattle.index_message.specs.declared.fault.MessageFault.{MessageFault}
-use Rattle.index_message.specs.declared.fault.MessageFault.TheVariants.{BadHead, ShortBody}
-use Rattle.index_message.specs.declared.message.Message.{Message}
-use Rattle.index_message.specs.declared.message.Message.TheVariants.{Faulty, Whole}
+use Rattle.index_message.specs.declared.fault.MessageFault.TheVariants.{ShortBody}
 use Rattle.index_message.specs.declared.message.Asked.{Asked}
 use Rattle.index_message.proofs.MessageLemmas.{at_most_one}
 use Rattle.index_http.specs.PagePasses.{MeasuresPage}
-use Rattle.index_http.specs.Shows.{GivesMessage, asks_page, is_look}
-use Rattle.index_http.specs.declared.connection.IoEnd.{IoEnd}
+use Rattle.index_http.specs.Shows.{is_look}
 use Rattle.index_http.specs.declared.connection.IoEnd.TheVariants as io_end
 use Rattle.index_rules.specs.declared.books.Books.{Ghosts}
-use Rattle.index_rules.specs.History.{History}
-use Rattle.index_rules.specs.Maps.{Bytes}
 use Rattle.index.specs.RefutedMessages.{RefutesExchanges, RefutesInput, RefutesPasses, RefutesReads, RefutesShown, RefutesStandings}
 use Rattle.index.proofs.WrongLines.{refutes_line_counts}
 use Rattle.index.proofs.WrongReplies.{bad_head_replied, bad_message, none_asked, refutes_replies}

@@ -1,43 +1,24 @@
 -- Wrong replies to messages, to lines and on connections do not meet the words of the contracts.
-use Rattle.std.proofs.Common.{◌≡◌, ◌∙◌, ◌<◌, ℕ, suc, Bool, true, false, List, [], ◌++◌, length, take, drop, Option, Some, None, Result, Ok}
-use Rattle.std.proofs.Common.{Err, refl, sym, ap, subst, inl, inr, arith, le_refl, length-take-le, take_all, take-append-drop, append-nil}
-use Rattle.std.specs.Io.KnownBytes.{Appends, Keeps}
-use Rattle.std.proofs.lemmas.List.{append_cancel_left}
+use Rattle.index.proofs.Words.{◌≡◌, ◌∙◌, ◌<◌, ℕ, suc, Bool, true, false, List, [], ◌++◌, length, take, drop, Option, Some, None, Result, Ok}
+use Rattle.index.proofs.Words.{Err, refl, sym, ap, subst, inl, inr, arith, append-nil, Appends, Keeps, append_cancel_left, LeavesTables}
+use Rattle.index.proofs.Words.{Rules, by_history, by_tables, Takes, standing_text_of, Line, HasHead, HasNoHead, IsMessage, begins_with_head}
+use Rattle.index.proofs.Words.{BadHead, Message, Faulty, Whole, ReplyEnds, MessageGetsText, reply_head, reply_text, to_sink, IoEnd}
+use Rattle.index.proofs.Words.{ClientTaken, StreamFaults, TextAnswersParsedLine, LineEnd, Answer, Call, HasOneBearer, History, Bytes}
+use Rattle.index.proofs.Words.{StandsFor, Tables}
+use Rattle.std.proofs.Common.{le_refl, length-take-le, take_all, take-append-drop}
 use Rattle.index_io.specs.Counts.{HasFailed}
 use Rattle.index_io.specs.declared.sink.Sink.{Ghosts as Outs}
-use Rattle.index_desk.specs.Looks.{LeavesTables}
-use Rattle.index_desk.specs.Rules.{Rules, by_history, by_tables}
-use Rattle.index_desk.specs.Takes.{Takes}
-use Rattle.index_json.specs.StandingText.{standing_text_of}
-use Rattle.index_json.specs.declared.line.Line.{Line}
-use Rattle.index_message.specs.Heads.{HasHead, HasNoHead}
-use Rattle.index_message.specs.Messages.{IsMessage, begins_with_head}
 use Rattle.index_message.specs.Resources.{is_head, is_put}
-use Rattle.index_message.specs.declared.fault.MessageFault.TheVariants.{BadHead}
-use Rattle.index_message.specs.declared.message.Message.{Message}
-use Rattle.index_message.specs.declared.message.Message.TheVariants.{Faulty, Whole}
 use Rattle.index_http.specs.Asks.{Asks, AsksFor, MessageIsAnswered, call_in, text_of_answer}
-use Rattle.index_http.specs.Ends.{IsFaultReply, LastsOrFails, ReplyEnds, SentBytesShowFailure}
-use Rattle.index_http.specs.Exchanges.{Acts, HasRequest, InputGetsText, IsFaultless, MessageGetsText, RequestGetsReply, RequestGetsText}
+use Rattle.index_http.specs.Ends.{IsFaultReply, LastsOrFails, SentBytesShowFailure}
+use Rattle.index_http.specs.Exchanges.{Acts, HasRequest, InputGetsText, IsFaultless, RequestGetsReply, RequestGetsText}
 use Rattle.index_http.specs.Exchanges.{ShowsFile, ShowsResource, body_reply}
-use Rattle.index_http.specs.Replies.{reply_head, reply_text}
 use Rattle.index_http.specs.Sends.{SendsFirstBytes, SendsLessThanText}
-use Rattle.index_http.specs.Steps.{at_desk, to_sink}
-use Rattle.index_http.specs.declared.connection.IoEnd.{IoEnd}
+use Rattle.index_http.specs.Steps.{at_desk}
 use Rattle.index_http.specs.declared.connection.IoEnd.TheVariants as io_end
-use Rattle.index_cli.specs.Connections.{ClientTaken, StreamFaults}
 use Rattle.index_cli.specs.Replies.{line_reply_text}
-use Rattle.index_cli.specs.Telling.{TextAnswersParsedLine}
-use Rattle.index_cli.specs.declared.end.LineEnd.{LineEnd}
 use Rattle.index_cli.specs.declared.end.LineEnd.TheVariants as line_end
-use Rattle.index_rules.specs.declared.answer.Answer.{Answer}
 use Rattle.index_rules.specs.declared.books.Books.{Ghosts}
-use Rattle.index_rules.specs.declared.call.Call.{Call}
-use Rattle.index_rules.specs.Facts.{HasOneBearer}
-use Rattle.index_rules.specs.History.{History}
-use Rattle.index_rules.specs.Maps.{Bytes}
-use Rattle.index_rules.specs.StandsFor.{StandsFor}
-use Rattle.index_rules.specs.Tables.{Tables}
 use Rattle.index.specs.RefutedReplies.{RefutesAsks, RefutesHeadless, RefutesHeads, RefutesLineFaults, RefutesLineReplies, RefutesMessages}
 use Rattle.index.specs.RefutedReplies.{RefutesNext, RefutesReplies, RefutesShows, bad_head_text}
 use Rattle.index.proofs.WrongHeads.{no_fault_reply, same_status}

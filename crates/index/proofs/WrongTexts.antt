@@ -1,14 +1,12 @@
 -- The text of a failed store is that of no other reply to a line.
-use Rattle.std.proofs.Common.{◌≡◌, ◌∙◌, ◌⊎◌, ℕ, List, [], ◌∷◌, drop, refl, sym, ap, inl, inr, arith}
+use Rattle.index.proofs.Words.{◌≡◌, ◌∙◌, ◌⊎◌, ℕ, List, [], ◌∷◌, drop, refl, sym, ap, inl, inr, arith, answer_text_of, bad_body_text}
+use Rattle.index.proofs.Words.{standing_text_of, Answer, Store}
 use Rattle.index_rules.specs.declared.standing.Standing.{Standing}
 use Rattle.index_rules.specs.declared.standing.Standing.TheVariants as standing
 use Rattle.index_json.proofs.OnLiterals.{answers_on_literals}
-use Rattle.index_json.specs.AnswerText.{answer_text_of, bad_body_text}
-use Rattle.index_json.specs.StandingText.{standing_text_of}
 use Rattle.index_cli.specs.Causes.{ReplyReportsFaults, store_faults}
-use Rattle.index_rules.specs.declared.answer.Answer.{Answer}
 use Rattle.index_rules.specs.declared.answer.Answer.TheVariants as answer
-use Rattle.index_rules.specs.declared.answer.Fault.TheVariants.{OutOfMemory, Store}
+use Rattle.index_rules.specs.declared.answer.Fault.TheVariants.{OutOfMemory}
 use Rattle.index_rules.specs.declared.answer.Refusal.{Refusal}
 
 abbrev first_of : List ℕ → ℕ

@@ -1,17 +1,9 @@
 -- What a crash may leave after the calls that lines or connections ask for.
-use Rattle.std.proofs.Common.{◌≡◌, ◌≤◌, ◌<◌, ℕ, refl, sym, ap, ◌∙◌, subst, List, [], ◌∷◌, ◌++◌, Option, Some, None, arith, append_assoc}
-use Rattle.std.proofs.Common.{append-nil, take_all}
-use Rattle.index_rules.specs.declared.answer.Answer.{Answer}
-use Rattle.index_rules.specs.declared.call.Call.{Call}
-use Rattle.index_rules.specs.Tables.{Tables}
+use Rattle.index_cli.proofs.Words.{◌≡◌, ◌≤◌, ◌<◌, ℕ, refl, sym, ap, ◌∙◌, subst, List, [], ◌∷◌, ◌++◌, Option, Some, None, arith}
+use Rattle.index_cli.proofs.Words.{append_assoc, append-nil, take_all, Answer, Call, Tables, line_of, Line, line_feed, longest_line}
+use Rattle.index_cli.proofs.Words.{Exchange, AsksEach, AsksOne, AsksKept, AsksLine, AsksOf, LineCallsLeave}
 use Rattle.index_http.proofs.AskLemmas.{asks_map}
-use Rattle.index_json.specs.Line.{line_of}
-use Rattle.index_json.specs.declared.line.Line.{Line}
 use Rattle.index_json.specs.declared.line.Line.TheVariants as line
-use Rattle.index_cli.specs.Lines.{line_feed, longest_line}
-use Rattle.index_cli.specs.Connections.{Exchange}
-use Rattle.index_cli.specs.Serving.{AsksEach, AsksOne}
-use Rattle.index_cli.specs.LineCalls.{AsksKept, AsksLine, AsksOf, LineCallsLeave}
 
 -- what calls and answers, or these and tables, may have to do with one another
 abbrev pub Leaving : Type 1

@@ -1,23 +1,17 @@
 -- Each fault of the store that is told has a call that failed.
-use Rattle.std.proofs.Common.{◌≡◌, ◌∙◌, ◌+◌, ℕ, true, inl, inr, refl, sym, ap, List, [], ◌∷◌, ◌++◌, length, Option, append_assoc}
-use Rattle.std.proofs.Common.{append-nil, arith}
-use Rattle.std.proofs.lemmas.Bool.{cases_lt}
-use Rattle.index_io.specs.Counts.{FailsAtMostOnce, HasFailed, last_count}
-use Rattle.index_rules.specs.declared.answer.Answer.{Answer}
+use Rattle.index_cli.proofs.Words.{◌≡◌, ◌∙◌, ◌+◌, ℕ, true, inl, inr, refl, sym, ap, List, [], ◌∷◌, ◌++◌, length, Option, append_assoc}
+use Rattle.index_cli.proofs.Words.{append-nil, arith, cases_lt, HasFailed, Answer, Tables, NeverFalls, answer_text_of, HaveCounted}
+use Rattle.index_cli.proofs.Words.{HaveFailed, LinesReportFaults, LinesBeforeAreAnswered, line_feed}
+use Rattle.index_io.specs.Counts.{FailsAtMostOnce, last_count}
 use Rattle.index_rules.specs.declared.answer.Answer.TheVariants as answer
 use Rattle.index_rules.specs.declared.answer.Fault.{Fault}
 use Rattle.index_rules.specs.declared.answer.Fault.TheVariants.{OutOfMemory, Store}
 use Rattle.index_rules.specs.StoreFaults.{CountsStoreFault, answers_store_fault}
-use Rattle.index_rules.specs.Tables.{Tables}
 use Rattle.index_rules.specs.declared.standing.Standing.{Standing}
-use Rattle.index_desk.specs.Looks.{NeverFalls}
 use Rattle.index_json.proofs.OnLiterals.{answers_on_literals}
-use Rattle.index_json.specs.AnswerText.{answer_text_of}
 use Rattle.index_json.specs.StandingText.{standing_text_of}
-use Rattle.index_cli.specs.Causes.{HasCauses, HaveCounted, HaveFailed, LinesReportFaults, OutputReportsFaults, ReplyCountsStoreFault}
+use Rattle.index_cli.specs.Causes.{HasCauses, OutputReportsFaults, ReplyCountsStoreFault}
 use Rattle.index_cli.specs.Causes.{ReplyReportsFaults, store_faults}
-use Rattle.index_cli.specs.Ends.{LinesBeforeAreAnswered}
-use Rattle.index_cli.specs.Lines.{line_feed}
 use Rattle.index_cli.proofs.Progress.{Pushes}
 use Rattle.index_cli.proofs.RunEnds.{before_map}
 

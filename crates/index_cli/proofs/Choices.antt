@@ -1,25 +1,11 @@
 -- Where each fact that is told of calls gives a value, one value serves for all of a run.
-use Rattle.std.proofs.Common.{ℕ, List, [], ◌∷◌, ◌++◌, length, Option, Some, None, Result, Ok, Err, inl, inr, arith}
-use Rattle.std.proofs.lemmas.Bool.{cases_lt}
-use Rattle.index_rules.specs.declared.answer.Answer.{Answer}
-use Rattle.index_rules.specs.declared.call.Call.{Call}
-use Rattle.index_rules.specs.Maps.{Bytes}
-use Rattle.index_rules.specs.Tables.{Tables}
-use Rattle.index_desk.specs.Rules.{Rules}
-use Rattle.index_http.specs.Asks.{Asks, AsksFor}
-use Rattle.index_http.specs.declared.connection.IoEnd.{IoEnd}
+use Rattle.index_cli.proofs.Words.{ℕ, List, [], ◌∷◌, ◌++◌, length, Option, Some, None, Result, Ok, Err, inl, inr, arith, cases_lt, Answer}
+use Rattle.index_cli.proofs.Words.{Call, Bytes, Tables, Rules, Asks, AsksFor, IoEnd, line_of, Line, LineEnd, ReadFault, WriteFault}
+use Rattle.index_cli.proofs.Words.{LinesEnd, Telling, longest_line, Exchange, LeavingTables, ServesFirst, AsksEach, AsksOne, AsksLine}
+use Rattle.index_cli.proofs.Words.{AsksOf, LineCallsLeave}
 use Rattle.index_http.specs.declared.connection.IoEnd.TheVariants as io_end
-use Rattle.index_json.specs.Line.{line_of}
-use Rattle.index_json.specs.declared.line.Line.{Line}
 use Rattle.index_json.specs.declared.line.Line.TheVariants as line
-use Rattle.index_cli.specs.declared.end.LineEnd.{LineEnd}
-use Rattle.index_cli.specs.declared.end.LineEnd.TheVariants.{ReadFault, WriteFault, OutOfMemory}
-use Rattle.index_cli.specs.Ends.{LinesEnd, Telling}
-use Rattle.index_cli.specs.Lines.{longest_line}
-use Rattle.index_cli.specs.Connections.{Exchange}
-use Rattle.index_cli.specs.ServesFront.{LeavingTables, ServesFirst}
-use Rattle.index_cli.specs.Serving.{AsksEach, AsksOne}
-use Rattle.index_cli.specs.LineCalls.{AsksLine, AsksOf, LineCallsLeave}
+use Rattle.index_cli.specs.declared.end.LineEnd.TheVariants.{OutOfMemory}
 
 pub LinesEnd-choice : (A : Type 0) (tells : Telling) (by_choice : A → Telling) (T : Tables)
     → ((lines : List (List ℕ)) (text : List ℕ) → tells lines text T → (a : A) × by_choice a lines text T)

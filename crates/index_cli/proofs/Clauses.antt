@@ -1,45 +1,27 @@
 -- What the record of answered connections says, in clauses: by the tables, by a history, up to a fault, and of a crash.
-use Rattle.std.proofs.Common.{◌≡◌, ◌≢◌, ◌∙◌, ◌⊎◌, ℕ, Bool, true, false, inl, inr, refl, ap, subst, sym, arith, List, [], ◌∷◌, ◌++◌, length}
-use Rattle.std.proofs.Common.{Option, Some, None, Result, Ok, Err}
-use Rattle.index_rules.specs.declared.answer.Answer.{Answer}
-use Rattle.index_rules.specs.declared.answer.Answer.TheVariants.{Accepted, Already, Refused, Fault}
+use Rattle.index_cli.proofs.Words.{◌≡◌, ◌≢◌, ◌∙◌, ◌⊎◌, ℕ, Bool, true, false, inl, inr, refl, ap, subst, sym, arith, List, [], ◌∷◌, ◌++◌}
+use Rattle.index_cli.proofs.Words.{length, Option, Some, None, Result, Ok, Err, Answer, Accepted, Already, Refused, Fault, Call, Bytes}
+use Rattle.index_cli.proofs.Words.{HasOneBearer, History, IsLegal, Answers, tables_after, StandsFor, Tables, Accept, verdict_now}
+use Rattle.index_cli.proofs.Words.{sound_when_legal, StandsAfter, CallsLeave, HasCall, Rules, by_history, by_tables, answers_fault, Message}
+use Rattle.index_cli.proofs.Words.{Faulty, Whole, HttpRequest, Asks, AsksFor, ReplyEnds, Acts, InputGetsText, MessageGetsText, Reply}
+use Rattle.index_cli.proofs.Words.{reply_text, DeskStep, IoEnd, Cut, OutOfMemory, Exchange, DeskAnswersConnections, AcceptsNothing}
+use Rattle.index_cli.proofs.Words.{LeavingTables, ServesFirst, AsksEach, AsksOne, ExchangeIsAnswered, ExchangesAreAnswered, BeginsByFailure}
+use Rattle.index_cli.proofs.Words.{MayHaveMade, Went}
 use Rattle.index_rules.specs.declared.answer.Fault.{Fault as FaultData}
-use Rattle.index_rules.specs.declared.call.Call.{Call}
-use Rattle.index_rules.specs.Maps.{Bytes}
-use Rattle.index_rules.specs.Facts.{HasOneBearer}
-use Rattle.index_rules.specs.History.{History}
-use Rattle.index_rules.specs.Legal.{IsLegal}
-use Rattle.index_rules.specs.Runs.{Answers, Runs, tables_after}
-use Rattle.index_rules.specs.StandsFor.{StandsFor}
-use Rattle.index_rules.specs.Tables.{Tables}
-use Rattle.index_rules.specs.Verdict.{Accept, verdict_now}
+use Rattle.index_rules.specs.Runs.{Runs}
 use Rattle.index_rules.proofs.RunLemmas.{Runs-push}
-use Rattle.index_rules.proofs.StandsOn.{sound_when_legal}
-use Rattle.index_desk.specs.ByRules.{StandsAfter}
-use Rattle.index_desk.specs.Crashes.{CallsLeave, HasCall}
-use Rattle.index_desk.specs.Rules.{Rules, by_history, by_tables}
-use Rattle.index_desk.specs.Takes.{ByHistory, ByTables, CrashByHistory, CrashByTables, answers_fault}
+use Rattle.index_desk.specs.Takes.{ByHistory, ByTables, CrashByHistory, CrashByTables}
 use Rattle.index_desk.proofs.CrashLemmas.{CallsLeave-by_history, CallsLeave-more}
-use Rattle.index_message.specs.declared.message.Message.{Message}
-use Rattle.index_message.specs.declared.message.Message.TheVariants.{Faulty, Whole}
-use Rattle.index_message.specs.Requests.{HttpRequest}
 use Rattle.index_message.specs.Resources.{is_head, is_put, is_reading}
-use Rattle.index_http.specs.Asks.{Asks, AsksFor, call_in, text_of_answer}
-use Rattle.index_http.specs.Ends.{ReplyEnds}
-use Rattle.index_http.specs.Exchanges.{Acts, InputGetsText, MessageGetsText, RequestGetsText, call_of}
-use Rattle.index_http.specs.Replies.{Reply, reply_text}
+use Rattle.index_http.specs.Asks.{call_in, text_of_answer}
+use Rattle.index_http.specs.Exchanges.{RequestGetsText, call_of}
 use Rattle.index_http.specs.Sends.{SendsText}
-use Rattle.index_http.specs.Steps.{DeskStep}
-use Rattle.index_http.specs.declared.connection.IoEnd.{IoEnd}
-use Rattle.index_http.specs.declared.connection.IoEnd.TheVariants.{Cut, OutOfMemory, ReadFault, WriteFault}
+use Rattle.index_http.specs.declared.connection.IoEnd.TheVariants.{ReadFault, WriteFault}
 use Rattle.index_http.proofs.EndLemmas.{sent_ends}
 use Rattle.std.specs.Prelude.{if◌then◌else◌}
-use Rattle.index_cli.specs.Connections.{Exchange}
-use Rattle.index_cli.specs.DeskAnswers.{DeskAnswersConnections}
 use Rattle.index_cli.specs.LineFronts.{FrontByHistory, FrontByTables}
-use Rattle.index_cli.specs.ServesFront.{AcceptsNothing, ExchangeFrontIsAnswered, ExchangesAnsweredToFault, LeavingTables, ServesFirst}
-use Rattle.index_cli.specs.Serving.{AsksEach, AsksOne, ExchangeIsAnswered, ExchangesAreAnswered, Serves, ServesByHistory}
-use Rattle.index_cli.specs.Went.{BeginsByFailure, MayHaveMade, Went}
+use Rattle.index_cli.specs.ServesFront.{ExchangeFrontIsAnswered, ExchangesAnsweredToFault}
+use Rattle.index_cli.specs.Serving.{Serves, ServesByHistory}
 use Rattle.index_cli.proofs.Calls.{asks_each_map, asks_one_map, asks_push}
 
 -- ---- up to a fault

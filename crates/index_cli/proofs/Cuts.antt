@@ -1,14 +1,13 @@
 -- Where an input is cut into lines.
-use Rattle.std.proofs.Common.{◌≡◌, ◌≢◌, ℕ, ◌+◌, ◌<◌, ◌≤◌, ◌⊎◌, inl, inr, List, [], ◌∷◌, ◌++◌, length, take, Option, Some, None, Bool, true}
-use Rattle.std.proofs.Common.{false, nat_lt, cond, refl, sym, ap, ◌∙◌, arith, ne_eqb, append-nil, append_assoc, length-append, take_all}
+use Rattle.index_cli.proofs.Words.{◌≡◌, ◌≢◌, ℕ, ◌+◌, ◌<◌, ◌≤◌, ◌⊎◌, inl, inr, List, [], ◌∷◌, ◌++◌, length, take, Option, Some, None, Bool}
+use Rattle.index_cli.proofs.Words.{true, false, nat_lt, cond, refl, sym, ap, ◌∙◌, arith, ne_eqb, append-nil, append_assoc, length-append}
+use Rattle.index_cli.proofs.Words.{take_all, Consumes, IsAtEnd, IsInput, Charges, PartIsTaken, TakesLine, line_feed, longest_line}
 use Rattle.std.specs.List.{All}
-use Rattle.std.specs.Io.KnownBytes.{Consumes, IsAtEnd}
 use Rattle.std.proofs.KnownBytes.{Consumes-nil, Consumes-trans}
 use Rattle.std.proofs.lemmas.List.{take-append-le}
 use Rattle.std.proofs.lemmas.List.Elements.{All-head, All-nil, All-push, All-tail}
-use Rattle.index_io.specs.Bytes.{IsInput}
-use Rattle.index_cli.specs.Lines.{Charges, HasNoFeed, IsFrontOfLine, PartIsTaken, TakesLine, TakesLines, TakesLinesAndPart, TakesOneLine}
-use Rattle.index_cli.specs.Lines.{line_feed, lines_of, longest_line, onto_first}
+use Rattle.index_cli.specs.Lines.{HasNoFeed, IsFrontOfLine, TakesLines, TakesLinesAndPart, TakesOneLine}
+use Rattle.index_cli.specs.Lines.{lines_of, onto_first}
 
 -- ---- the lines of what begins with a line
 

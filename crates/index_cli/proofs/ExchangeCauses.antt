@@ -1,14 +1,11 @@
 -- Why exchanges end early.
-use Rattle.std.proofs.Common.{◌≡◌, ◌<◌, ℕ, true, Option, Result, Ok, Err, inl, inr, refl, arith}
-use Rattle.index_io.specs.Counts.{HasFailed}
+use Rattle.index_cli.proofs.Words.{◌≡◌, ◌<◌, ℕ, true, Option, Result, Ok, Err, inl, inr, refl, arith, HasFailed, Bytes, asks_page, IoEnd}
+use Rattle.index_cli.proofs.Words.{Cut, OutOfMemory, EndHasCause}
 use Rattle.index_io.specs.declared.sink.Sink.{Ghosts as Outs}
 use Rattle.index_io.specs.declared.source.Source.{Ghosts as Ins}
-use Rattle.index_rules.specs.Maps.{Bytes}
 use Rattle.index_http.specs.Sends.{StreamFailsOnly, is_cut}
-use Rattle.index_http.specs.Shows.{GivesMessage, asks_page}
-use Rattle.index_http.specs.declared.connection.IoEnd.{IoEnd}
-use Rattle.index_http.specs.declared.connection.IoEnd.TheVariants.{Cut, OutOfMemory, ReadFault, WriteFault}
-use Rattle.index_cli.specs.Serving.{EndHasCause}
+use Rattle.index_http.specs.Shows.{GivesMessage}
+use Rattle.index_http.specs.declared.connection.IoEnd.TheVariants.{ReadFault, WriteFault}
 
 -- a count that has risen, or is at its last value, is not 0
 some_failed : (before now : ℕ) → HasFailed before now → 0 < now

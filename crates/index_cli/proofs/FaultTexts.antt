@@ -1,15 +1,8 @@
 -- A store that is honest still, or the text of a fault.
-use Rattle.std.proofs.Common.{◌≡◌, ◌⊎◌, ℕ, inl, inr, refl, List, Some}
-use Rattle.index_rules.specs.declared.answer.Answer.{Answer}
-use Rattle.index_rules.specs.declared.answer.Answer.TheVariants.{Accepted, Already, Refused, Fault}
-use Rattle.index_rules.specs.declared.call.Call.{Call}
-use Rattle.index_rules.specs.Tables.{Tables}
+use Rattle.index_cli.proofs.Words.{◌≡◌, ◌⊎◌, ℕ, inl, inr, refl, List, Some, Answer, Accepted, Already, Refused, Fault, Call, Tables}
+use Rattle.index_cli.proofs.Words.{by_tables, answer_text_of, TextAnswersParsedLine, IsFaultText}
 use Rattle.index_desk.specs.Crashes.{Lasts}
-use Rattle.index_desk.specs.Rules.{by_tables}
-use Rattle.index_json.specs.AnswerText.{answer_text_of}
 use Rattle.index_json.specs.declared.line.Line.TheVariants as line
-use Rattle.index_cli.specs.Telling.{TextAnswersParsedLine}
-use Rattle.index_cli.specs.LineFronts.{IsFaultText}
 
 -- what is told of a fault
 pub honest_or_mapped : {H F P Q : Type 0} → H ⊎ (F × P) → (P → Q) → H ⊎ (F × Q)

@@ -1,47 +1,35 @@
 -- What a client is sent for a file name is what the history has of it, and so any two replies agree.
-use Rattle.std.proofs.Common.{◌≡◌, ◌∙◌, ◌<◌, ◌≤◌, ◌+◌, ◌/◌, ◌%◌, ◌^◌, ◌⊎◌, ℕ, Bool, true, false, cond, eqb, nat_lt, List, [], ◌∷◌, ◌++◌}
-use Rattle.std.proofs.Common.{Option, Some, None, refl, sym, ap, subst, inl, inr, arith, append_assoc, length-append, codes, decimal, drop}
-use Rattle.std.proofs.Common.{length, take, is_some, Result, Ok, Err, ne_eqb, ltb-false}
+use Rattle.index_cli.proofs.Words.{◌≡◌, ◌∙◌, ◌<◌, ◌≤◌, ◌+◌, ◌⊎◌, ℕ, Bool, true, false, cond, nat_lt, List, [], ◌∷◌, ◌++◌, Option, Some}
+use Rattle.index_cli.proofs.Words.{None, refl, sym, ap, subst, inl, inr, arith, append_assoc, length-append, length, take, Result, Ok, Err}
+use Rattle.index_cli.proofs.Words.{ne_eqb, HasFailed, History, IsLegal, history_after, Bytes, Accept, Call, by_history, ReplyEnds, Acts}
+use Rattle.index_cli.proofs.Words.{InputGetsText, MessageGetsText, asks_page, IoEnd, Cut, OutOfMemory, IsInput, HttpRequest, Message}
+use Rattle.index_cli.proofs.Words.{Faulty, Whole, Answer, Accepted, Already, Refused, Fault, Exchange, no_faults, DeskAnswersConnections}
+use Rattle.index_cli.proofs.Words.{EndHasCause, ExchangeIsAnswered, ExchangesAreAnswered, Went, DeskStep, StandsFor, Reply, reply_text}
+use Rattle.std.proofs.Common.{◌/◌, ◌%◌, ◌^◌, eqb}
+use Rattle.std.proofs.Common.{codes, decimal, drop}
+use Rattle.std.proofs.Common.{is_some, ltb-false}
 use Rattle.std.proofs.lemmas.Fmt.{decimal_by_steps, length-decimal-le_succ}
 use Rattle.index_digest.specs.Digest.{sha256}
-use Rattle.index_io.specs.Counts.{HasFailed}
 use Rattle.index_names.specs.FileName.{read_file_name}
-use Rattle.index_rules.specs.History.{History, begins, more}
+use Rattle.index_rules.specs.History.{begins, more}
 use Rattle.index_rules.specs.Laws.{HasUpload, IsFrontOf, IsUploadOf}
-use Rattle.index_rules.specs.Legal.{IsLegal, facts_after, history_after, verdict_after}
-use Rattle.index_rules.specs.Maps.{Bytes}
+use Rattle.index_rules.specs.Legal.{facts_after, verdict_after}
 use Rattle.index_rules.specs.StandsFor.{body_after}
-use Rattle.index_rules.specs.Verdict.{Accept, largest_body}
+use Rattle.index_rules.specs.Verdict.{largest_body}
 use Rattle.index_rules.specs.declared.answer.Refusal.TheVariants.{NoFile, TooLarge}
-use Rattle.index_rules.specs.declared.call.Call.{Call}
 use Rattle.index_rules.specs.declared.call.Request.{Request}
 use Rattle.index_rules.specs.declared.call.Request.TheVariants.{Upload}
 use Rattle.index_rules.proofs.Accepted.{accepted}
 use Rattle.index_rules.proofs.ServeLemmas.{serves_bound, serves_uploads}
-use Rattle.index_desk.specs.Rules.{by_history}
-use Rattle.index_http.specs.Ends.{ReplyEnds}
-use Rattle.index_http.specs.Exchanges.{Acts, InputGetsText, MessageGetsText, RequestGetsReply, ShowsFile, body_reply, refusal_reply}
+use Rattle.index_http.specs.Exchanges.{RequestGetsReply, ShowsFile, body_reply, refusal_reply}
 use Rattle.index_http.specs.Exchanges.{store_reply}
-use Rattle.index_http.specs.Shows.{asks_page}
-use Rattle.index_http.specs.declared.connection.IoEnd.{IoEnd}
-use Rattle.index_http.specs.declared.connection.IoEnd.TheVariants.{Cut, OutOfMemory, ReadFault, WriteFault}
-use Rattle.index_io.specs.Bytes.{IsInput}
+use Rattle.index_http.specs.declared.connection.IoEnd.TheVariants.{ReadFault, WriteFault}
 use Rattle.index_message.specs.Fields.{Field}
 use Rattle.index_message.specs.Messages.{IsMessage}
-use Rattle.index_message.specs.Requests.{HttpRequest}
-use Rattle.index_message.specs.declared.message.Message.{Message}
-use Rattle.index_message.specs.declared.message.Message.TheVariants.{Faulty, Whole}
 use Rattle.index_message.proofs.MessageLemmas.{at_most_one}
-use Rattle.index_rules.specs.declared.answer.Answer.{Answer}
-use Rattle.index_rules.specs.declared.answer.Answer.TheVariants.{Accepted, Already, Refused, Fault}
-use Rattle.index_cli.specs.Connections.{Exchange, StreamFaults, no_faults}
-use Rattle.index_cli.specs.DeskAnswers.{DeskAnswersConnections}
+use Rattle.index_cli.specs.Connections.{StreamFaults}
 use Rattle.index_cli.specs.FilesServed.{GotFile, IsAmong, IsServedAt, RepliesAgree, get_of_file}
-use Rattle.index_cli.specs.Serving.{EndHasCause, ExchangeIsAnswered, ExchangesAreAnswered}
-use Rattle.index_cli.specs.Went.{Went}
-use Rattle.index_http.specs.Steps.{DeskStep}
-use Rattle.index_rules.specs.StandsFor.{StandsFor}
-use Rattle.index_http.specs.Replies.{Reply, answer_reply, fields_text, file_reply, head_text, phrase_of, reply_head, reply_text}
+use Rattle.index_http.specs.Replies.{answer_reply, fields_text, file_reply, head_text, phrase_of, reply_head}
 
 -- ---- fronts
 

@@ -1,20 +1,10 @@
 -- What is told of lines over tables that stand for a legal history is what the history gives.
-use Rattle.std.proofs.Common.{ℕ, inl, inr, refl, sym, subst, List, [], ◌∷◌, length, Option, Some, None, arith}
-use Rattle.std.proofs.lemmas.Bool.{cases_lt}
-use Rattle.index_names.specs.Project.{read_name}
-use Rattle.index_rules.specs.Tables.{Tables}
-use Rattle.index_rules.specs.History.{History}
-use Rattle.index_rules.specs.StandsFor.{StandsFor}
-use Rattle.index_rules.specs.Legal.{history_after, IsLegal}
-use Rattle.index_rules.proofs.StandsOn.{CarriesOn-answer}
-use Rattle.index_desk.specs.ByRules.{StandsAfter}
-use Rattle.index_desk.specs.Rules.{by_history, by_tables}
+use Rattle.index_cli.proofs.Words.{ℕ, inl, inr, refl, sym, subst, List, [], ◌∷◌, length, Option, Some, None, arith, cases_lt, read_name}
+use Rattle.index_cli.proofs.Words.{Tables, History, StandsFor, history_after, IsLegal, CarriesOn-answer, StandsAfter, by_history, by_tables}
+use Rattle.index_cli.proofs.Words.{line_of, Line, longest_line, TextAnswersLine, TextAnswersLines, TextAnswersParsedLine}
 use Rattle.index_desk.proofs.RulesLemmas.{standing_by_history}
-use Rattle.index_json.specs.Line.{line_of}
-use Rattle.index_json.specs.declared.line.Line.{Line}
 use Rattle.index_json.specs.declared.line.Line.TheVariants as line
-use Rattle.index_cli.specs.Lines.{longest_line}
-use Rattle.index_cli.specs.Telling.{TextAnswersLine, TextAnswersLines, TextAnswersParsedLine, TextAnswersStanding}
+use Rattle.index_cli.specs.Telling.{TextAnswersStanding}
 
 standing_after : (h : History) (T : Tables) → StandsFor T h → (name : Option (List ℕ)) (text : List ℕ)
     → TextAnswersStanding by_tables T name text → TextAnswersStanding by_history h name text

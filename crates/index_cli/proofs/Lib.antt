@@ -13,3 +13,4 @@ pub mod Clauses
 pub mod FilesServed
 pub mod LinesWentLemmas
 pub mod LineClauses
+mod Words

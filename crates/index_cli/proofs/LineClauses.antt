@@ -1,23 +1,12 @@
 -- What the record of answered lines says, in clauses: up to a fault, and of the calls that a crash leaves.
-use Rattle.std.proofs.Common.{◌≡◌, ◌≢◌, ◌∙◌, ◌<◌, ◌≤◌, ℕ, inl, inr, refl, ap, subst, sym, arith, List, [], ◌∷◌, ◌++◌, length, true}
-use Rattle.std.proofs.Common.{Contains, Option, Some, None, append_assoc, append-nil}
-use Rattle.index_rules.specs.declared.answer.Answer.{Answer}
-use Rattle.index_rules.specs.declared.answer.Answer.TheVariants.{Accepted, Already, Refused, Fault}
-use Rattle.index_rules.specs.declared.call.Call.{Call}
-use Rattle.index_rules.specs.Runs.{Answers, tables_after}
-use Rattle.index_rules.specs.Tables.{Tables}
-use Rattle.index_rules.specs.Verdict.{verdict_now}
-use Rattle.index_desk.specs.Crashes.{CallsLeave, HasCall}
-use Rattle.index_desk.specs.Rules.{Rules, by_tables}
-use Rattle.index_desk.specs.Takes.{answers_fault}
-use Rattle.index_json.specs.Line.{line_of}
-use Rattle.index_json.specs.declared.line.Line.{Line}
+use Rattle.index_cli.proofs.Words.{◌≡◌, ◌≢◌, ◌∙◌, ◌<◌, ◌≤◌, ℕ, inl, inr, refl, ap, subst, sym, arith, List, [], ◌∷◌, ◌++◌, length, true}
+use Rattle.index_cli.proofs.Words.{Contains, Option, Some, None, append_assoc, append-nil, Answer, Accepted, Already, Refused, Fault, Call}
+use Rattle.index_cli.proofs.Words.{Answers, tables_after, Tables, verdict_now, CallsLeave, HasCall, Rules, by_tables, answers_fault}
+use Rattle.index_cli.proofs.Words.{line_of, Line, AsksLine, AsksOf, LineCallsLeave, line_feed, longest_line, AcceptNone, Answered}
+use Rattle.index_cli.proofs.Words.{BeginsByFault, LinesMayHaveMade, LinesWent, lines_in, text_by, TextAnswersLine, TextAnswersLines}
+use Rattle.index_cli.proofs.Words.{TextAnswersParsedLine}
 use Rattle.index_json.specs.declared.line.Line.TheVariants as line
-use Rattle.index_cli.specs.LineCalls.{AsksLine, AsksOf, LineCallsLeave}
 use Rattle.index_cli.specs.LineFronts.{AcceptsNone, TextAnswersFront, TextAnswersToFault}
-use Rattle.index_cli.specs.Lines.{line_feed, longest_line}
-use Rattle.index_cli.specs.LinesWent.{AcceptNone, Answered, BeginsByFault, LinesMayHaveMade, LinesWent, lines_in, text_by}
-use Rattle.index_cli.specs.Telling.{TextAnswersLine, TextAnswersLines, TextAnswersParsedLine}
 use Rattle.index_cli.proofs.Calls.{LineCallsLeave-map, asks_line_map}
 use Rattle.std.proofs.lemmas.Map.Made.{Contains-tail}
 

@@ -1,34 +1,13 @@
 -- Lines that were answered, up to a fault that shut the store if one did, and what a crash leaves.
-use Rattle.std.proofs.Common.{◌≡◌, ◌≢◌, ◌∙◌, ◌⊎◌, ℕ, true, inl, inr, refl, subst, sym, ap, List, [], ◌∷◌, ◌++◌, length, take, Contains}
-use Rattle.std.proofs.Common.{Option, Result, append_assoc, append-nil, arith}
-use Rattle.std.proofs.lemmas.Bool.{cases_lt}
-use Rattle.index_names.specs.Project.{read_name}
-use Rattle.index_rules.specs.declared.answer.Answer.{Answer}
-use Rattle.index_rules.specs.declared.answer.Answer.TheVariants.{Accepted, Already, Refused, Fault}
-use Rattle.index_rules.specs.declared.books.Books.{Ghosts}
-use Rattle.index_rules.specs.declared.call.Call.{Call}
-use Rattle.index_rules.specs.Facts.{HasOneBearer}
-use Rattle.index_rules.specs.History.{History}
-use Rattle.index_rules.specs.Legal.{IsLegal}
-use Rattle.index_rules.specs.StandsFor.{StandsFor}
-use Rattle.index_rules.specs.Tables.{Tables}
-use Rattle.index_rules.proofs.StandsOn.{CarriesOn-answer, sound_when_legal}
-use Rattle.index_desk.specs.ByRules.{StandsAfter}
-use Rattle.index_desk.specs.Crashes.{AnswerLeavesTables, HasCall}
-use Rattle.index_desk.specs.Invariants.{KeepsInvariants}
-use Rattle.index_desk.specs.Looks.{LeavesTables}
-use Rattle.index_desk.specs.Rules.{by_history, by_tables}
-use Rattle.index_desk.specs.Takes.{Takes, answers_fault}
-use Rattle.index_http.specs.Steps.{at_desk}
-use Rattle.index_cli.specs.declared.end.LineEnd.{LineEnd}
+use Rattle.index_cli.proofs.Words.{◌≡◌, ◌≢◌, ◌∙◌, ◌⊎◌, ℕ, true, inl, inr, refl, subst, sym, ap, List, [], ◌∷◌, ◌++◌, length, take, Contains}
+use Rattle.index_cli.proofs.Words.{Option, Result, append_assoc, append-nil, arith, cases_lt, read_name, Answer, Accepted, Already, Refused}
+use Rattle.index_cli.proofs.Words.{Fault, Ghosts, Call, HasOneBearer, History, IsLegal, StandsFor, Tables, CarriesOn-answer}
+use Rattle.index_cli.proofs.Words.{sound_when_legal, StandsAfter, AnswerLeavesTables, HasCall, KeepsInvariants, LeavesTables, by_history}
+use Rattle.index_cli.proofs.Words.{by_tables, Takes, answers_fault, at_desk, LineEnd, LinesEnd, Telling, AsksKept, AsksLine, IsFaultText}
+use Rattle.index_cli.proofs.Words.{line_feed, AcceptNone, Answered, BeginsByFault, LinesMayHaveMade, LinesWent, lines_in, text_by}
+use Rattle.index_cli.proofs.Words.{KeptLineIsAnswered, TextAnswersLine, TextAnswersLines}
 use Rattle.index_cli.specs.DeskAnswers.{LinesAreAnswered, by_desk}
-use Rattle.index_cli.specs.Ends.{LinesEnd, Telling}
-use Rattle.index_cli.specs.LineCalls.{AsksKept, AsksLine}
-use Rattle.index_cli.specs.LineFronts.{IsFaultText}
-use Rattle.index_cli.specs.Lines.{line_feed}
-use Rattle.index_cli.specs.LinesWent.{AcceptNone, Answered, BeginsByFault, LinesMayHaveMade, LinesWent, lines_in, text_by}
-use Rattle.index_cli.specs.Replies.{IsHonestOrFault, KeptLineIsAnswered}
-use Rattle.index_cli.specs.Telling.{TextAnswersLine, TextAnswersLines}
+use Rattle.index_cli.specs.Replies.{IsHonestOrFault}
 use Rattle.index_cli.proofs.Calls.{asks_line_map}
 use Rattle.index_cli.proofs.Choices.{AsksLine-choice}
 use Rattle.index_cli.proofs.Histories.{line_after, lines_after}

@@ -1,17 +1,13 @@
 -- A run over the lines of an input.
-use Rattle.std.proofs.Common.{◌≡◌, ℕ, ◌+◌, ◌<◌, ◌≤◌, inr, List, [], ◌∷◌, ◌++◌, length, take, take_all, Option, Some, refl, sym, ap, ◌∙◌}
-use Rattle.std.proofs.Common.{subst, arith, append_assoc, append-nil, length-append}
-use Rattle.std.specs.Io.KnownBytes.{Appends, Consumes, IsAtEnd}
+use Rattle.index_cli.proofs.Words.{◌≡◌, ℕ, ◌+◌, ◌<◌, ◌≤◌, inr, List, [], ◌∷◌, ◌++◌, length, take, take_all, Option, Some, refl, sym, ap}
+use Rattle.index_cli.proofs.Words.{◌∙◌, subst, arith, append_assoc, append-nil, length-append, Consumes, IsAtEnd, Tables, by_tables}
+use Rattle.index_cli.proofs.Words.{line_of, AllLinesAreAnswered, LineIsPartlyAnswered, LinesBeforeAreAnswered, Telling, PartIsTaken}
+use Rattle.index_cli.proofs.Words.{TakesLine, line_feed, longest_line, KeptLineIsAnswered, TextAnswersLine, TextAnswersLines}
+use Rattle.index_cli.proofs.Words.{TextAnswersParsedLine}
+use Rattle.std.specs.Io.KnownBytes.{Appends}
 use Rattle.std.proofs.KnownBytes.{Appends-trans, Appends-nil}
 use Rattle.std.proofs.Math.Seq.{take-append-add}
-use Rattle.index_rules.specs.Tables.{Tables}
-use Rattle.index_desk.specs.Rules.{by_tables}
 use Rattle.index_json.specs.AnswerText.{bad_body_text}
-use Rattle.index_json.specs.Line.{line_of}
-use Rattle.index_cli.specs.Ends.{AllLinesAreAnswered, LineIsPartlyAnswered, LinesBeforeAreAnswered, Telling}
-use Rattle.index_cli.specs.Lines.{PartIsTaken, TakesLine, line_feed, longest_line}
-use Rattle.index_cli.specs.Replies.{KeptLineIsAnswered}
-use Rattle.index_cli.specs.Telling.{TextAnswersLine, TextAnswersLines, TextAnswersParsedLine}
 use Rattle.index_cli.proofs.Cuts.{Cuts, Cuts-input, Cuts-nil, Cuts-part, Cuts-push, Cuts-taken, Cuts-whole}
 
 -- ---- one line

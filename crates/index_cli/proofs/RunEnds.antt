@@ -1,11 +1,8 @@
 -- The ends of a run.
-use Rattle.std.proofs.Common.{◌≡◌, ◌≢◌, ℕ, ◌⊎◌, inl, inr, List, Option, Result, Ok, Err, sym, subst}
-use Rattle.index_io.specs.Counts.{HasFailed}
-use Rattle.index_rules.specs.Tables.{Tables}
-use Rattle.index_cli.specs.declared.end.LineEnd.{LineEnd}
-use Rattle.index_cli.specs.declared.end.LineEnd.TheVariants.{ReadFault, WriteFault, OutOfMemory}
-use Rattle.index_cli.specs.Ends.{AllLinesAreAnswered, LineIsPartlyAnswered, LinesBeforeAreAnswered, LinesEnd, Telling}
-use Rattle.index_cli.specs.Lines.{Charges}
+use Rattle.index_cli.proofs.Words.{◌≡◌, ◌≢◌, ℕ, ◌⊎◌, inl, inr, List, Option, Result, Ok, Err, sym, subst, HasFailed, Tables, LineEnd}
+use Rattle.index_cli.proofs.Words.{ReadFault, WriteFault, AllLinesAreAnswered, LineIsPartlyAnswered, LinesBeforeAreAnswered, LinesEnd}
+use Rattle.index_cli.proofs.Words.{Telling, Charges}
+use Rattle.index_cli.specs.declared.end.LineEnd.TheVariants.{OutOfMemory}
 use Rattle.index_cli.proofs.Cuts.{Charges-trans}
 
 -- at each end but that of a writer

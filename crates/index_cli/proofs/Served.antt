@@ -1,13 +1,10 @@
 -- Connections that were answered, and what came and went on them.
-use Rattle.std.proofs.Common.{◌≡◌, ℕ, List, [], ◌∷◌, Option, Some, None, Err, inl, refl, subst, sym}
-use Rattle.std.specs.Prelude.{IfSome, unwrap_or}
-use Rattle.index_rules.specs.declared.books.Books.{Ghosts}
-use Rattle.index_http.specs.declared.connection.IoEnd.TheVariants.{OutOfMemory}
-use Rattle.index_desk.proofs.LeavesLemmas.{leaves_none}
-use Rattle.index_cli.specs.Connections.{AreOn, Came, Closed, Exchange, IsRest, IsUnsent, KnownList, KnownReplies, Loses, no_faults}
-use Rattle.index_http.specs.Steps.{at_desk}
+use Rattle.index_cli.proofs.Words.{◌≡◌, ℕ, List, [], ◌∷◌, Option, Some, None, Err, inl, refl, subst, sym, IfSome, Ghosts, OutOfMemory}
+use Rattle.index_cli.proofs.Words.{leaves_none, AreOn, Exchange, no_faults, at_desk, DeskAnswersExchange}
+use Rattle.std.specs.Prelude.{unwrap_or}
+use Rattle.index_cli.specs.Connections.{Came, Closed, IsRest, IsUnsent, KnownList, KnownReplies, Loses}
 use Rattle.index_cli.specs.Steps.{on_connections}
-use Rattle.index_cli.specs.Serving.{DeskAnswersExchange, NextConnectionIsAnswered}
+use Rattle.index_cli.specs.Serving.{NextConnectionIsAnswered}
 
 -- ---- connections so far
 

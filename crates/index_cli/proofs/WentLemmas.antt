@@ -1,33 +1,17 @@
 -- Connections that were answered, up to a fault that shut the store if one did, and what a crash leaves.
-use Rattle.std.proofs.Common.{◌≡◌, ◌≢◌, ◌∙◌, ◌⊎◌, ℕ, ◌+◌, true, inl, inr, refl, subst, sym, arith, List, [], ◌∷◌, ◌++◌, length, Option}
-use Rattle.std.specs.Prelude.{IfSome}
+use Rattle.index_cli.proofs.Words.{◌≡◌, ◌≢◌, ◌∙◌, ◌⊎◌, ℕ, ◌+◌, true, inl, inr, refl, subst, sym, arith, List, [], ◌∷◌, ◌++◌, length, Option}
+use Rattle.index_cli.proofs.Words.{IfSome, Answer, Accepted, Already, Refused, Fault, Ghosts, Call, HasOneBearer, History, IsLegal}
+use Rattle.index_cli.proofs.Words.{StandsFor, Tables, CarriesOn-answer, sound_when_legal, StandsAfter, AnswerLeavesTables, HasCall}
+use Rattle.index_cli.proofs.Words.{KeepsInvariants, LeavesTables, NeverFalls, by_history, by_tables, Takes, answers_fault, at_desk}
+use Rattle.index_cli.proofs.Words.{Exchange, DeskAnswersConnections, AcceptsNothing, AsksOne, DeskAnswersExchange, ExchangeIsAnswered}
+use Rattle.index_cli.proofs.Words.{ExchangesAreAnswered, BeginsByFailure, MayHaveMade, Went}
 use Rattle.std.specs.List.{AllByRecursion}
-use Rattle.index_rules.specs.declared.answer.Answer.{Answer}
-use Rattle.index_rules.specs.declared.answer.Answer.TheVariants.{Accepted, Already, Refused, Fault}
-use Rattle.index_rules.specs.declared.books.Books.{Ghosts}
-use Rattle.index_rules.specs.declared.call.Call.{Call}
-use Rattle.index_rules.specs.Facts.{HasOneBearer}
-use Rattle.index_rules.specs.History.{History}
-use Rattle.index_rules.specs.Legal.{IsLegal}
-use Rattle.index_rules.specs.StandsFor.{StandsFor}
-use Rattle.index_rules.specs.Tables.{Tables}
-use Rattle.index_rules.proofs.StandsOn.{CarriesOn-answer, sound_when_legal}
-use Rattle.index_desk.specs.ByRules.{StandsAfter}
-use Rattle.index_desk.specs.Crashes.{AnswerLeavesTables, HasCall}
-use Rattle.index_desk.specs.Invariants.{KeepsInvariants}
-use Rattle.index_desk.specs.Looks.{LeavesTables, NeverFalls}
-use Rattle.index_desk.specs.Rules.{by_history, by_tables}
-use Rattle.index_desk.specs.Takes.{Takes, answers_fault}
 use Rattle.index_http.specs.Exchanges.{IsFaultless}
-use Rattle.index_http.specs.Steps.{StaysHonest, at_desk}
+use Rattle.index_http.specs.Steps.{StaysHonest}
 use Rattle.index_http.proofs.Failures.{failure_map}
 use Rattle.index_http.proofs.Histories.{reply_ends_by_history, faultless_after}
 use Rattle.index_desk.proofs.LeavesLemmas.{never_falls}
-use Rattle.index_cli.specs.Connections.{Exchange}
-use Rattle.index_cli.specs.DeskAnswers.{DeskAnswersConnections}
-use Rattle.index_cli.specs.ServesFront.{AcceptsNothing}
-use Rattle.index_cli.specs.Serving.{AsksOne, DeskAnswersExchange, ExchangeIsAnswered, ExchangeShowsFailure, ExchangesAreAnswered}
-use Rattle.index_cli.specs.Went.{BeginsByFailure, MayHaveMade, Went}
+use Rattle.index_cli.specs.Serving.{ExchangeShowsFailure}
 use Rattle.index_cli.proofs.Calls.{asks_one_map}
 use Rattle.index_cli.proofs.Choices.{AsksOne-choice}
 

@@ -1,11 +1,5 @@
 -- In sound tables the bytes of a file are those that it is bound to.
-use Rattle.std.proofs.Common.{◌≡◌, refl, Option, Some, None}
-use Rattle.std.specs.FinMap.{get}
-use Rattle.index_rules.specs.declared.records.FileRecord.{FileRecord}
-use Rattle.index_rules.specs.Maps.{Bytes}
-use Rattle.index_rules.specs.Sound.{IsSound}
-use Rattle.index_rules.specs.Tables.{Tables}
-use Rattle.index_desk.specs.Bodies.{AreBytesOf}
+use Rattle.index_desk.proofs.Words.{◌≡◌, refl, Option, Some, None, get, FileRecord, Bytes, IsSound, Tables, AreBytesOf}
 
 pub bytes-bound : (T : Tables) → IsSound T → (file : Bytes) → AreBytesOf T file (get T.bodies file)
 bytes-bound T sound file = by (get T.bodies file) (get T.files file) refl refl

@@ -1,22 +1,15 @@
 -- The files of a name weigh what they are charged, and in sound tables each charge is right.
-use Rattle.std.proofs.Common.{◌≡◌, ℕ, ◌+◌, Bool, true, false, cond, not, refl, sym, ap, ◌∙◌, List, [], ◌∷◌, Some, map, filter, sum_by}
-use Rattle.std.proofs.Common.{count_by, arith}
-use Rattle.std.specs.List.{AllByRecursion}
-use Rattle.std.specs.FinMap.{get, entries}
-use Rattle.std.proofs.lemmas.Bool.{eq-eqb, false≢true, and_parts}
+use Rattle.index_desk.proofs.Words.{◌≡◌, ℕ, ◌+◌, Bool, true, false, cond, not, refl, sym, ap, ◌∙◌, List, [], ◌∷◌, Some, map, filter, sum_by}
+use Rattle.index_desk.proofs.Words.{count_by, arith, AllByRecursion, get, entries, false≢true, and_parts, FileRecord, NameRecord, FileRow}
+use Rattle.index_desk.proofs.Words.{Bytes, Tables, name_row, file_row_in, file_rows_in, IsSound, charge_in, is_undeleted_of, is_held}
+use Rattle.index_desk.proofs.Words.{same-is, is_charged_wrong_in, wrong_charges_in}
+use Rattle.std.proofs.lemmas.Bool.{eq-eqb}
 use Rattle.std.proofs.lemmas.List.Sums.{sum_by-cons}
-use Rattle.index_rules.specs.declared.records.FileRecord.{FileRecord}
-use Rattle.index_rules.specs.declared.records.NameRecord.{NameRecord}
 use Rattle.index_rules.specs.declared.records.NameRecord.TheVariants as known
-use Rattle.index_rules.specs.declared.rows.FileRow.{FileRow}
-use Rattle.index_rules.specs.Maps.{Bytes}
-use Rattle.index_rules.specs.Tables.{Tables}
-use Rattle.index_rules.specs.TableRows.{name_row, file_row_in, file_rows_in}
-use Rattle.index_rules.specs.Sound.{IsSound, charge_in, charged_size, is_undeleted_of}
-use Rattle.index_rules.specs.Verdict.{held_project, is_held}
-use Rattle.index_rules.proofs.OwnerLists.{same-is}
+use Rattle.index_rules.specs.Sound.{charged_size}
+use Rattle.index_rules.specs.Verdict.{held_project}
 use Rattle.index_rules.proofs.Totals.{total-zero}
-use Rattle.index_desk.specs.Checks.{charge_of, is_charged_wrong_in, wrong_charges_in}
+use Rattle.index_desk.specs.Checks.{charge_of}
 use Rattle.index_desk.proofs.EntryRows.{each_entry}
 
 module _ (T : Tables) (n : Bytes) where

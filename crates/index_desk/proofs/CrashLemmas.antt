@@ -1,18 +1,12 @@
 -- What a crash may leave after a call.
-use Rattle.std.proofs.Common.{◌≢◌, ◌⊎◌, inl, inr, refl, subst, sym, List, [], ◌∷◌, ◌++◌, arith}
+use Rattle.index_desk.proofs.Words.{◌⊎◌, inl, inr, refl, subst, sym, List, [], ◌∷◌, ◌++◌, arith, Answer, Accepted, Already, Refused, Fault}
+use Rattle.index_desk.proofs.Words.{Call, Tables, Runs, tables_after, History, StandsFor, IsLegal, CarriesOn-answer, AnswerLeavesTables}
+use Rattle.index_desk.proofs.Words.{CallsLeave, HasCall, LastsAll, by_history, by_tables}
+use Rattle.std.proofs.Common.{◌≢◌}
 use Rattle.std.proofs.lemmas.List.Elements.{Contains-push_cases}
-use Rattle.index_rules.specs.declared.answer.Answer.{Answer}
-use Rattle.index_rules.specs.declared.answer.Answer.TheVariants.{Accepted, Already, Refused, Fault}
 use Rattle.index_rules.specs.declared.answer.Fault.{Fault as FaultData}
-use Rattle.index_rules.specs.declared.call.Call.{Call}
-use Rattle.index_rules.specs.Tables.{Tables}
-use Rattle.index_rules.specs.Runs.{Runs, tables_after}
-use Rattle.index_rules.specs.History.{History}
-use Rattle.index_rules.specs.StandsFor.{StandsFor}
-use Rattle.index_rules.specs.Legal.{IsLegal, with_call}
-use Rattle.index_rules.proofs.StandsOn.{CarriesOn-answer}
-use Rattle.index_desk.specs.Crashes.{AnswerLeavesTables, CallsLeave, HasCall, Lasts, LastsAll}
-use Rattle.index_desk.specs.Rules.{by_history, by_tables}
+use Rattle.index_rules.specs.Legal.{with_call}
+use Rattle.index_desk.specs.Crashes.{Lasts}
 
 -- more may be left if each of its two parts is more
 pub Leaves-weaker : (before before' with_call with_call' : Tables → Type 0) → ((T : Tables) → before T → before' T)

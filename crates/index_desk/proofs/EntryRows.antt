@@ -1,21 +1,18 @@
 -- Rows of the entries of a map that pass a test, and the keys of these.
-use Rattle.std.proofs.Common.{◌≡◌, Bool, true, false, cond, ◌&&◌, ◌||◌, refl, sym, ap, ◌∙◌, T, List, [], ◌∷◌, Some, None, is_some, map}
-use Rattle.std.proofs.Common.{filter, find}
-use Rattle.std.specs.Option.{option_map_or}
+use Rattle.index_desk.proofs.Words.{◌≡◌, Bool, true, false, cond, ◌&&◌, ◌||◌, refl, sym, ap, ◌∙◌, List, [], ◌∷◌, Some, None, is_some, map}
+use Rattle.index_desk.proofs.Words.{filter, option_map_or, AllByRecursion, list_any, IsStrictlySortedBy, get, entries, and_parts, Bytes}
+use Rattle.index_desk.proofs.Words.{same, bytes_cmp, same-refl, same-is}
+use Rattle.std.proofs.Common.{T}
+use Rattle.std.proofs.Common.{find}
 use Rattle.std.specs.Ordering.{eq_by_cmp, is_eq, is_lt}
 use Rattle.std.specs.declared.cmp.Ordering.{Ordering}
 use Rattle.std.specs.declared.cmp.Ordering.TheVariants.{Less, Equal, Greater}
-use Rattle.std.specs.List.{AllByRecursion, list_any}
-use Rattle.std.specs.List.Sorted.{IsStrictlySortedBy}
-use Rattle.std.specs.FinMap.{get, entries, entries_sorted, get-entries, is_sorted}
+use Rattle.std.specs.FinMap.{entries_sorted, get-entries, is_sorted}
 use Rattle.std.specs.FinMap as fin
 use Rattle.std.specs.FinMap.Entries.{below_all}
-use Rattle.std.proofs.lemmas.Bool.{and_parts}
 use Rattle.std.proofs.lemmas.Map.Text.{is_eq-slice_cmp}
-use Rattle.index_rules.specs.Maps.{Bytes, Map, same, bytes_cmp}
+use Rattle.index_rules.specs.Maps.{Map}
 use Rattle.index_rules.proofs.EntryLemmas.{both_hold, find-passes, get-found, get-missed}
-use Rattle.index_rules.proofs.KeyLemmas.{same-refl}
-use Rattle.index_rules.proofs.OwnerLists.{same-is}
 use Rattle.index_rules.proofs.Rising.{IsStrictlySortedBy-keys}
 use Rattle.index_desk.specs.Lists.{AreThose}
 

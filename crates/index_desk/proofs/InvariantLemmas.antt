@@ -1,10 +1,5 @@
 -- Calls one after the other keep what each of them keeps.
-use Rattle.std.proofs.Common.{subst, sym}
-use Rattle.index_rules.specs.declared.books.Books.{Ghosts}
-use Rattle.index_rules.specs.Facts.{HasOneBearer}
-use Rattle.index_rules.specs.Sound.{IsSound}
-use Rattle.index_desk.specs.Invariants.{KeepsInvariants}
-use Rattle.index_desk.specs.Looks.{LeavesTables}
+use Rattle.index_desk.proofs.Words.{subst, sym, Ghosts, HasOneBearer, IsSound, KeepsInvariants, LeavesTables}
 
 module _ {S : Type 0} (g : Ghosts S) where
   pub keeps_on : (first now new : S) → KeepsInvariants g first now → KeepsInvariants g now new → KeepsInvariants g first new

@@ -1,11 +1,10 @@
 -- Calls that leave the tables, and the count of failed stores, which does not fall.
-use Rattle.std.proofs.Common.{◌∙◌, ◌+◌, ℕ, Bool, true, false, inl, inr, refl, arith, Result}
+use Rattle.index_desk.proofs.Words.{◌∙◌, ◌+◌, ℕ, Bool, true, false, inl, inr, refl, arith, Result, Ghosts, CountsStoreFault, LeavesTables}
+use Rattle.index_desk.proofs.Words.{ReadsTables}
 use Rattle.std.proofs.lemmas.Bool.{cases_lt}
 use Rattle.index_io.specs.Counts.{last_count}
 use Rattle.index_rules.specs.declared.answer.Fault.{Fault}
-use Rattle.index_rules.specs.declared.books.Books.{Ghosts}
-use Rattle.index_rules.specs.StoreFaults.{CountsStoreFault}
-use Rattle.index_desk.specs.Looks.{LeavesTables, NeverFalls, ReadsTables}
+use Rattle.index_desk.specs.Looks.{NeverFalls}
 
 -- ---- the count
 

@@ -1,14 +1,9 @@
 -- What a look finds in tables is so in each history for which they stand.
-use Rattle.std.proofs.Common.{Result, IfOk}
-use Rattle.std.proofs.lemmas.Result.{IfOk-weaker}
+use Rattle.index_desk.proofs.Words.{Result, IfOk-weaker, Ghosts, History, StandsFor, Tables, ReadsTables, by_history, by_tables}
+use Rattle.std.proofs.Common.{IfOk}
 use Rattle.index_rules.specs.declared.answer.Fault.{Fault}
-use Rattle.index_rules.specs.declared.books.Books.{Ghosts}
 use Rattle.index_rules.specs.declared.rows.WalkEnd.{WalkEnd}
-use Rattle.index_rules.specs.History.{History}
-use Rattle.index_rules.specs.StandsFor.{StandsFor}
-use Rattle.index_rules.specs.Tables.{Tables}
-use Rattle.index_desk.specs.Looks.{Finding, HandsOver, LooksBy, ReadsTables, WalksTables}
-use Rattle.index_desk.specs.Rules.{by_history, by_tables}
+use Rattle.index_desk.specs.Looks.{Finding, HandsOver, LooksBy, WalksTables}
 
 module _ {S : Type 0} (g : Ghosts S) (old new : S) where
   pub looks_by : {X : Type 0} (result : Result X Fault) (Holds : Finding X)

@@ -1,27 +1,16 @@
 -- A file that is served stands on the page of its project, once, and on no other page.
-use Rattle.std.proofs.Common.{◌≡◌, ◌||◌, ℕ, Bool, true, false, cond, ◌&&◌, inl, inr, refl, sym, ap, ◌∙◌, subst, List, [], ◌∷◌, Option, Some}
-use Rattle.std.proofs.Common.{None, is_some, map, option_map}
-use Rattle.std.specs.Option.{option_map_or}
-use Rattle.std.specs.List.{AllByRecursion, list_any}
-use Rattle.std.specs.List.Sorted.{IsStrictlySortedBy}
-use Rattle.std.specs.FinMap.{get}
-use Rattle.std.proofs.lemmas.Bool.{false≢true, and_parts, or_cases}
+use Rattle.index_desk.proofs.Words.{◌≡◌, ◌||◌, ℕ, Bool, true, false, cond, ◌&&◌, inl, inr, refl, sym, ap, ◌∙◌, subst, List, [], ◌∷◌, Option}
+use Rattle.index_desk.proofs.Words.{Some, None, is_some, map, option_map, option_map_or, AllByRecursion, list_any, IsStrictlySortedBy, get}
+use Rattle.index_desk.proofs.Words.{false≢true, and_parts, project_of, FileRecord, FileRow, Bytes, bytes_cmp, same, is_held, History}
+use Rattle.index_desk.proofs.Words.{IsLegal, State, Free, Held, Prohibited, state_after, is_held_now, first_upload_after, is_charged_after}
+use Rattle.index_desk.proofs.Words.{is_undeleted_after, requires_after, file_of_upload, project_after, record_of_state, same-refl, same-is}
+use Rattle.index_desk.proofs.Words.{undeleted_known, file_row_after}
+use Rattle.std.proofs.lemmas.Bool.{or_cases}
 use Rattle.index_digest.specs.Digest.{sha256}
-use Rattle.index_names.specs.FileName.{project_of}
-use Rattle.index_rules.specs.declared.records.FileRecord.{FileRecord}
-use Rattle.index_rules.specs.declared.rows.FileRow.{FileRow}
-use Rattle.index_rules.specs.Maps.{Bytes, bytes_cmp, same}
-use Rattle.index_rules.specs.Verdict.{is_held}
-use Rattle.index_rules.specs.History.{History}
-use Rattle.index_rules.specs.Legal.{IsLegal}
-use Rattle.index_rules.specs.PastNames.{State, Free, Held, Prohibited, state_after, is_held_now}
-use Rattle.index_rules.specs.PastFiles.{first_upload_after, is_charged_after, is_undeleted_after, requires_after, last_body_after}
-use Rattle.index_rules.specs.StandsFor.{body_after, file_of_upload, project_after, record_of_state}
-use Rattle.index_rules.proofs.KeyLemmas.{same-refl}
-use Rattle.index_rules.proofs.OwnerLists.{same-is}
-use Rattle.index_rules.proofs.PastWords.{undeleted_known}
+use Rattle.index_rules.specs.PastFiles.{last_body_after}
+use Rattle.index_rules.specs.StandsFor.{body_after}
 use Rattle.index_rules.proofs.StandsOn.{tables_of, legal_made}
-use Rattle.index_desk.specs.PastRows.{digest_after, file_row_after}
+use Rattle.index_desk.specs.PastRows.{digest_after}
 use Rattle.index_desk.specs.OnPages.{has_file, IsOnItsPage, RefutesOtherBytes, ServesWhatItShows, ShowsWhatItServes}
 
 some_is : {A : Type 0} (o : Option A) → is_some o ≡ true → (x : A) × (o ≡ Some x)

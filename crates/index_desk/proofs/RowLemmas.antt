@@ -1,26 +1,15 @@
 -- The rows of tables are those that a history makes for which the tables stand.
-use Rattle.std.proofs.Common.{◌≡◌, ℕ, Bool, true, false, cond, ◌&&◌, refl, sym, ap, ◌∙◌, [], Option, Some, None, is_some, option_map}
-use Rattle.std.specs.Option.{option_map_or}
-use Rattle.std.specs.FinMap.{get, entries}
-use Rattle.std.proofs.lemmas.Bool.{false≢true, and_parts}
-use Rattle.index_names.specs.FileName.{project_of, release_of}
-use Rattle.index_rules.specs.declared.records.FileRecord.{FileRecord}
-use Rattle.index_rules.specs.declared.records.NameRecord.{NameRecord}
+use Rattle.index_desk.proofs.Words.{◌≡◌, ℕ, Bool, true, false, cond, ◌&&◌, refl, sym, ap, ◌∙◌, [], Option, Some, None, is_some, option_map}
+use Rattle.index_desk.proofs.Words.{option_map_or, get, entries, false≢true, and_parts, project_of, FileRecord, NameRecord, Bytes, same}
+use Rattle.index_desk.proofs.Words.{Tables, name_row, is_held_row, held_rows_in, file_row_in, file_rows_in, is_held, is_undeleted_of}
+use Rattle.index_desk.proofs.Words.{History, State, Free, Held, Prohibited, state_after, is_held_now, first_upload_after, is_charged_after}
+use Rattle.index_desk.proofs.Words.{is_undeleted_after, requires_after, StandsFor, record_of_state, project_after, file_of_upload, same-is}
+use Rattle.index_desk.proofs.Words.{undeleted_known, AreHeldRowsAfter, AreProjectRowsAfter, file_row_after, project_rows_in}
+use Rattle.index_names.specs.FileName.{release_of}
 use Rattle.index_rules.specs.declared.records.NameRecord.TheVariants as known
-use Rattle.index_rules.specs.Maps.{Bytes, same}
-use Rattle.index_rules.specs.Tables.{Tables}
-use Rattle.index_rules.specs.TableRows.{name_row, is_held_row, held_rows_in, file_row_in, file_rows_in}
 use Rattle.index_rules.specs.Facts.{yank_in}
-use Rattle.index_rules.specs.Verdict.{is_held}
-use Rattle.index_rules.specs.Sound.{is_undeleted_of}
-use Rattle.index_rules.specs.History.{History}
-use Rattle.index_rules.specs.PastNames.{State, Free, Held, Prohibited, state_after, is_held_now, yank_after}
-use Rattle.index_rules.specs.PastFiles.{first_upload_after, is_charged_after, is_undeleted_after, requires_after}
-use Rattle.index_rules.specs.StandsFor.{StandsFor, record_of_state, project_after, file_of_upload}
-use Rattle.index_rules.proofs.OwnerLists.{same-is}
-use Rattle.index_rules.proofs.PastWords.{undeleted_known}
-use Rattle.index_desk.specs.PastRows.{AreHeldRowsAfter, AreFileRowsAfter, AreProjectRowsAfter, held_row_after, file_row_after}
-use Rattle.index_desk.specs.Projects.{project_rows_in}
+use Rattle.index_rules.specs.PastNames.{yank_after}
+use Rattle.index_desk.specs.PastRows.{AreFileRowsAfter, held_row_after}
 use Rattle.index_desk.proofs.EntryRows.{keys_where, AreThose-keys_where, each_entry, rows_by_key, filter-rows}
 
 abbrev is_held_entry : Bytes × NameRecord → Bool

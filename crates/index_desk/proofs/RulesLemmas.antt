@@ -1,15 +1,8 @@
 -- What tables answer is what a history answers for which they stand.
-use Rattle.std.proofs.Common.{sym, subst, ◌∙◌, List, Option}
-use Rattle.index_rules.specs.declared.rows.FileRow.{FileRow}
+use Rattle.index_desk.proofs.Words.{sym, subst, ◌∙◌, List, Option, FileRow, Bytes, Tables, History, StandsFor, IsStandingAfter}
+use Rattle.index_desk.proofs.Words.{AreHeldRowsAfter, AreProjectRowsAfter, by_history, by_tables}
 use Rattle.index_rules.specs.declared.rows.NameRow.{NameRow}
-use Rattle.index_rules.specs.Maps.{Bytes}
-use Rattle.index_rules.specs.Tables.{Tables}
-use Rattle.index_rules.specs.History.{History}
-use Rattle.index_rules.specs.StandsFor.{StandsFor}
 use Rattle.index_rules.specs.declared.standing.Standing.{Standing}
-use Rattle.index_desk.specs.Standings.{IsStandingAfter}
-use Rattle.index_desk.specs.PastRows.{AreHeldRowsAfter, AreProjectRowsAfter}
-use Rattle.index_desk.specs.Rules.{by_history, by_tables}
 use Rattle.index_desk.proofs.StandingLemmas.{IsStandingAfter-standing_in}
 use Rattle.index_desk.proofs.RowLemmas.{AreHeldRowsAfter-held_rows_in, AreProjectRowsAfter-project_rows_in}
 

@@ -1,12 +1,8 @@
 -- The standing that tables give is that of a history for which they stand.
-use Rattle.std.proofs.Common.{◌≡◌, refl, sym, ◌∙◌, subst}
-use Rattle.index_rules.specs.Maps.{Bytes}
-use Rattle.index_rules.specs.Tables.{Tables}
-use Rattle.index_rules.specs.History.{History}
-use Rattle.index_rules.specs.PastNames.{State, Free, Held, Prohibited, state_after}
-use Rattle.index_rules.specs.StandsFor.{StandsFor, record_of_state, project_after}
+use Rattle.index_desk.proofs.Words.{◌≡◌, refl, sym, ◌∙◌, subst, Bytes, Tables, History, State, Free, Held, Prohibited, state_after}
+use Rattle.index_desk.proofs.Words.{StandsFor, record_of_state, project_after, IsStandingAfter}
 use Rattle.index_rules.proofs.OwnerLists.{IsStrictlySortedBy-owners_in, list_any-owners_in}
-use Rattle.index_desk.specs.Standings.{IsStandingAfter, standing_of_record, standing_in}
+use Rattle.index_desk.specs.Standings.{standing_of_record, standing_in}
 
 pub IsStandingAfter-standing_in : (h : History) (T : Tables) → StandsFor T h → (name : Bytes) → IsStandingAfter h name (standing_in T name)
 IsStandingAfter-standing_in h T stands name = subst (λ found. IsStandingAfter h name (standing_of_record T name found))

@@ -1,31 +1,25 @@
 -- What is known of a call that was decided and settled, and of calls in a row.
-use Rattle.std.proofs.Common.{◌≡◌, ◌∙◌, ◌⊎◌, ℕ, inl, inr, refl, ap, subst, sym, List, [], ◌∷◌, ◌++◌, Contains, Result, Ok}
+use Rattle.index_desk.proofs.Words.{◌≡◌, ◌∙◌, ◌⊎◌, ℕ, inl, inr, refl, ap, subst, sym, List, [], ◌∷◌, ◌++◌, Contains, Result, Ok, HasFailed}
+use Rattle.index_desk.proofs.Words.{Answer, Accepted, Already, Refused, Fault, Store, Ghosts, Call, HasOneBearer, Runs, tables_after}
+use Rattle.index_desk.proofs.Words.{IsSound, Tables, CountsStoreFault, CarriesOn-answer, HasOneBearer-tables_after, AnswerLeavesTables}
+use Rattle.index_desk.proofs.Words.{CallsLeave, HasCall, LastsAll, by_tables, KeepsInvariants, Takes}
 use Rattle.std.proofs.lemmas.List.Elements.{Contains-append_left, Contains-push}
-use Rattle.index_io.specs.Counts.{FailsAtMostOnce, HasFailed}
-use Rattle.index_rules.specs.declared.answer.Answer.{Answer}
-use Rattle.index_rules.specs.declared.answer.Answer.TheVariants.{Accepted, Already, Refused, Fault}
-use Rattle.index_rules.specs.declared.answer.Fault.TheVariants.{OutOfMemory, Store}
-use Rattle.index_rules.specs.declared.books.Books.{Ghosts}
-use Rattle.index_rules.specs.declared.call.Call.{Call}
+use Rattle.index_io.specs.Counts.{FailsAtMostOnce}
+use Rattle.index_rules.specs.declared.answer.Fault.TheVariants.{OutOfMemory}
 use Rattle.index_rules.specs.declared.change.Change.{Change}
 use Rattle.index_rules.specs.declared.decision.Decision.{Decision}
 use Rattle.index_rules.specs.declared.decision.Stop.{Stop}
 use Rattle.index_rules.specs.Decided.{Decides}
 use Rattle.index_rules.specs.Effect.{effect, means}
-use Rattle.index_rules.specs.Facts.{HasOneBearer, facts_in}
-use Rattle.index_rules.specs.Runs.{Answers, Runs, tables_after, tables_after_change}
-use Rattle.index_rules.specs.Sound.{IsSound}
-use Rattle.index_rules.specs.Tables.{Tables}
-use Rattle.index_rules.specs.StoreFaults.{CountsStoreFault, answers_store_fault}
+use Rattle.index_rules.specs.Facts.{facts_in}
+use Rattle.index_rules.specs.Runs.{Answers, tables_after_change}
+use Rattle.index_rules.specs.StoreFaults.{answers_store_fault}
 use Rattle.index_rules.specs.Verdict.{Verdict, verdict_now}
-use Rattle.index_rules.proofs.StandsOn.{CarriesOn-answer, CarriesOnBy-Runs, sound_when_legal}
-use Rattle.index_rules.proofs.OneBearer.{HasOneBearer-Runs, HasOneBearer-tables_after}
+use Rattle.index_rules.proofs.StandsOn.{CarriesOnBy-Runs, sound_when_legal}
+use Rattle.index_rules.proofs.OneBearer.{HasOneBearer-Runs}
 use Rattle.index_rules.proofs.SoundLemmas.{IsSound-Runs, IsSound-tables_after}
-use Rattle.index_desk.specs.Crashes.{AnswerLeavesTables, CallsLeave, HasCall, LastsAll}
-use Rattle.index_desk.specs.Rules.{by_tables}
-use Rattle.index_desk.specs.Invariants.{KeepsInvariants}
 use Rattle.index_desk.specs.Looks.{LooksAt}
-use Rattle.index_desk.specs.Takes.{ByTables, CrashByTables, Settles, SettlesBy, Takes, TakesInTurn}
+use Rattle.index_desk.specs.Takes.{ByTables, CrashByTables, Settles, SettlesBy, TakesInTurn}
 use Rattle.index_desk.proofs.CrashLemmas.{Lasts-earlier, LastsAll-weaker, Leaves-weaker, CallsLeave-by_history}
 
 -- ---- one call

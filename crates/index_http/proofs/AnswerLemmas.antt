@@ -1,16 +1,6 @@
 -- The reply to a request is what was shown of it, or the answer to its call.
-use Rattle.std.proofs.Common.{◌≡◌, ℕ, true, refl, Option, Result}
-use Rattle.index_rules.specs.Maps.{Bytes}
-use Rattle.index_rules.specs.Tables.{Tables}
-use Rattle.index_desk.specs.Rules.{by_tables}
-use Rattle.index_message.specs.Requests.{HttpRequest}
-use Rattle.index_message.specs.Resources.{is_head, is_reading}
-use Rattle.index_message.specs.declared.message.Message.{Message}
-use Rattle.index_message.specs.declared.message.Message.TheVariants.{Whole}
-use Rattle.index_http.specs.Ends.{ReplyEnds}
-use Rattle.index_http.specs.Exchanges.{MessageGetsText, ShowsResource}
-use Rattle.index_http.specs.Shows.{LookEnds}
-use Rattle.index_http.specs.declared.connection.IoEnd.{IoEnd}
+use Rattle.index_http.proofs.Words.{◌≡◌, ℕ, true, refl, Option, Result, Bytes, Tables, by_tables, HttpRequest, is_head, is_reading, Message}
+use Rattle.index_http.proofs.Words.{Whole, ReplyEnds, MessageGetsText, ShowsResource, LookEnds, IoEnd}
 use Rattle.index_http.proofs.EndLemmas.{ends_map}
 
 -- the reply to a message, and tables after it

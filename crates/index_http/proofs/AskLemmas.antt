@@ -1,10 +1,6 @@
 -- What a message asks, if what it asks for comes to something else.
-use Rattle.std.proofs.Common.{ℕ, inl, inr, Option, Some, None, Result}
-use Rattle.index_rules.specs.declared.answer.Answer.{Answer}
-use Rattle.index_rules.specs.declared.call.Call.{Call}
-use Rattle.index_rules.specs.Maps.{Bytes}
+use Rattle.index_http.proofs.Words.{ℕ, inl, inr, Option, Some, None, Result, Answer, Call, Bytes, IoEnd}
 use Rattle.index_http.specs.Asks.{Asks, AsksFor}
-use Rattle.index_http.specs.declared.connection.IoEnd.{IoEnd}
 use Rattle.index_http.proofs.EndLemmas.{ends_map}
 
 module _ (L L' : Type 0) (K K' : Call → Answer → Type 0) (before after : Option Bytes) (result : Result (Unit {0}) IoEnd)

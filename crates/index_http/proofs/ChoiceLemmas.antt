@@ -1,15 +1,13 @@
 -- The fields of a request choose one type of a page at most.
-use Rattle.std.proofs.Common.{◌≡◌, ◌∙◌, ℕ, zero, suc, ◌≤◌, ◌<◌, ◌⊎◌, inl, inr, List, [], ◌∷◌, ◌++◌, map, Bor, Option, Some, None, refl, sym}
-use Rattle.std.proofs.Common.{ap, subst, arith}
-use Rattle.std.specs.List.{AllByRecursion, flat_map}
+use Rattle.index_http.proofs.Words.{◌≡◌, ◌∙◌, ℕ, zero, suc, ◌≤◌, ◌<◌, ◌⊎◌, inl, inr, List, [], ◌∷◌, ◌++◌, Bor, Option, Some, None, refl}
+use Rattle.index_http.proofs.Words.{sym, ap, subst, arith, flat_map, Served, Bytes, Field}
+use Rattle.std.proofs.Common.{map}
+use Rattle.std.specs.List.{AllByRecursion}
 use Rattle.std.specs.Str.{byte}
-use Rattle.index_pages.specs.declared.served.Served.{Served}
 use Rattle.index_pages.specs.declared.served.Served.TheVariants.{PlainHtml, Html, Json}
 use Rattle.index_pages.specs.declared.tally.Claim.{Claim}
 use Rattle.index_pages.specs.Accept.{IsAtMost, IsChosen, IsFirstGreatest, IsQuality, Item, SomeOf, claim, cut_at, item_of, items_of}
 use Rattle.index_pages.specs.Accept.{no_claim, or_anything, rank}
-use Rattle.index_rules.specs.Maps.{Bytes}
-use Rattle.index_message.specs.Fields.{Field}
 use Rattle.index_http.specs.Exchanges.{IsAccepted}
 
 -- ---- the quality of a type

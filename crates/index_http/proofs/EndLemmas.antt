@@ -1,21 +1,11 @@
 -- A reply that was sent ends a connection.
-use Rattle.std.proofs.Common.{◌≡◌, ◌⊎◌, ℕ, Bool, true, false, inl, inr, refl, sym, subst, Option, Result, Ok, Err}
+use Rattle.index_http.proofs.Words.{◌≡◌, ◌⊎◌, ℕ, Bool, true, false, inl, inr, refl, sym, subst, Option, Result, Ok, Err, HttpRequest}
+use Rattle.index_http.proofs.Words.{Message, Faulty, Whole, Bytes, Tables, CountsStoreFault, Fault, Store, ReplyEnds, store_reply, Reply}
+use Rattle.index_http.proofs.Words.{reply_text, SendsText, LookFails, LookEnds, IsTextOfLook, IoEnd, ReadFault, OutOfMemory, WriteFault}
+use Rattle.index_http.proofs.Words.{Cut}
 use Rattle.index_message.specs.Messages.{is_faulty}
-use Rattle.index_message.specs.Requests.{HttpRequest}
-use Rattle.index_message.specs.declared.message.Message.{Message}
-use Rattle.index_message.specs.declared.message.Message.TheVariants.{Faulty, Whole}
-use Rattle.index_rules.specs.Maps.{Bytes}
-use Rattle.index_rules.specs.Tables.{Tables}
-use Rattle.index_rules.specs.StoreFaults.{CountsStoreFault, is_store_fault}
-use Rattle.index_rules.specs.declared.answer.Fault.{Fault}
-use Rattle.index_rules.specs.declared.answer.Fault.TheVariants.{Store, OutOfMemory as NoMemory}
-use Rattle.index_http.specs.Ends.{ReplyEnds}
-use Rattle.index_http.specs.Exchanges.{store_reply}
-use Rattle.index_http.specs.Replies.{Reply, reply_text}
-use Rattle.index_http.specs.Sends.{SendsText}
-use Rattle.index_http.specs.Shows.{LookFails, LookEnds, IsTextOfLook}
-use Rattle.index_http.specs.declared.connection.IoEnd.{IoEnd}
-use Rattle.index_http.specs.declared.connection.IoEnd.TheVariants.{ReadFault, OutOfMemory, WriteFault, Cut}
+use Rattle.index_rules.specs.StoreFaults.{is_store_fault}
+use Rattle.index_rules.specs.declared.answer.Fault.TheVariants.{OutOfMemory as NoMemory}
 
 -- a text that was sent and is a reply
 pub sent_ends : (IsReply : Bytes → Type 0) (Unchanged : Type 0) (text : Bytes) (before after : Option Bytes)

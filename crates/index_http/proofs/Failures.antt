@@ -1,26 +1,14 @@
 -- A store that stays honest, or a failure that what went out shows.
-use Rattle.std.proofs.Common.{◌≡◌, ◌∙◌, ◌⊎◌, ℕ, Bool, true, false, inl, inr, refl, sym, length, take, le_refl, append-nil, take_all, Option}
-use Rattle.std.proofs.Common.{Some, None, Result, Ok, Err}
-use Rattle.std.specs.Io.KnownBytes.{Appends, Keeps}
-use Rattle.index_rules.specs.Maps.{Bytes}
-use Rattle.index_rules.specs.Tables.{Tables}
-use Rattle.index_rules.specs.declared.answer.Answer.{Answer}
+use Rattle.index_http.proofs.Words.{◌≡◌, ◌∙◌, ◌⊎◌, ℕ, Bool, true, false, inl, inr, refl, sym, length, take, append-nil, Option, Some, None}
+use Rattle.index_http.proofs.Words.{Result, Ok, Err, Appends, Keeps, Bytes, Tables, Answer, Fault, Store, Lasts, by_tables, HttpRequest}
+use Rattle.index_http.proofs.Words.{is_head, is_reading, Whole, ReplyEnds, MessageGetsText, ShowsResource, store_reply, Reply, answer_reply}
+use Rattle.index_http.proofs.Words.{reply_text, SendsLessThanText, SendsText, LookFails, IsTextOfLook, IoEnd, ReadFault, OutOfMemory}
+use Rattle.index_http.proofs.Words.{WriteFault, Cut}
+use Rattle.std.proofs.Common.{le_refl, take_all}
 use Rattle.index_rules.specs.declared.answer.Answer.TheVariants as answer
-use Rattle.index_rules.specs.declared.answer.Fault.{Fault}
-use Rattle.index_rules.specs.declared.answer.Fault.TheVariants.{Store, OutOfMemory as NoMemory}
-use Rattle.index_desk.specs.Crashes.{Lasts}
-use Rattle.index_desk.specs.Rules.{by_tables}
+use Rattle.index_rules.specs.declared.answer.Fault.TheVariants.{OutOfMemory as NoMemory}
 use Rattle.index_desk.specs.Takes.{answers_fault}
-use Rattle.index_message.specs.Requests.{HttpRequest}
-use Rattle.index_message.specs.Resources.{is_head, is_reading}
-use Rattle.index_message.specs.declared.message.Message.TheVariants.{Whole}
-use Rattle.index_http.specs.Ends.{ReplyEnds, SentBytesShowFailure}
-use Rattle.index_http.specs.Exchanges.{MessageGetsText, ShowsResource, store_reply}
-use Rattle.index_http.specs.Replies.{Reply, answer_reply, reply_text}
-use Rattle.index_http.specs.Sends.{SendsLessThanText, SendsText}
-use Rattle.index_http.specs.Shows.{LookFails, IsTextOfLook}
-use Rattle.index_http.specs.declared.connection.IoEnd.{IoEnd}
-use Rattle.index_http.specs.declared.connection.IoEnd.TheVariants.{ReadFault, OutOfMemory, WriteFault, Cut}
+use Rattle.index_http.specs.Ends.{SentBytesShowFailure}
 
 -- ---- the reply to a fault
 

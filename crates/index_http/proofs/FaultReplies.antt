@@ -1,11 +1,9 @@
 -- The text of a reply with another status is not that of the reply to a fault.
-use Rattle.std.proofs.Common.{◌≡◌, ◌∙◌, ◌+◌, ◌/◌, ℕ, Bool, true, false, List, [], ◌∷◌, ◌++◌, drop, refl, sym, ap, arith}
+use Rattle.index_http.proofs.Words.{◌≡◌, ◌∙◌, ◌+◌, ℕ, Bool, true, false, List, [], ◌∷◌, ◌++◌, refl, sym, ap, arith, Fault, Store, Bytes}
+use Rattle.index_http.proofs.Words.{IsFaultReply, Reply, answer_reply, head_text, reply_head, reply_text}
+use Rattle.std.proofs.Common.{◌/◌, drop}
 use Rattle.index_rules.specs.declared.answer.Answer.TheVariants as answer
-use Rattle.index_rules.specs.declared.answer.Fault.{Fault}
-use Rattle.index_rules.specs.declared.answer.Fault.TheVariants.{OutOfMemory, Store}
-use Rattle.index_rules.specs.Maps.{Bytes}
-use Rattle.index_http.specs.Ends.{IsFaultReply}
-use Rattle.index_http.specs.Replies.{Reply, answer_reply, head_text, reply_head, reply_text}
+use Rattle.index_rules.specs.declared.answer.Fault.TheVariants.{OutOfMemory}
 
 abbrev pub first_of : List ℕ → ℕ
 first_of [] = 0

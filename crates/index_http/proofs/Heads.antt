@@ -1,8 +1,9 @@
 -- The head of a reply, piece by piece.
-use Rattle.std.proofs.Common.{◌≡◌, ℕ, ◌+◌, ◌<◌, ◌≤◌, List, [], ◌++◌, codes, decimal, length, refl, ap, ◌∙◌, append_assoc, append-nil}
-use Rattle.std.proofs.Common.{length-append, arith}
+use Rattle.index_http.proofs.Words.{◌≡◌, ℕ, ◌+◌, ◌<◌, ◌≤◌, List, [], ◌++◌, length, refl, ap, ◌∙◌, append_assoc, append-nil, length-append}
+use Rattle.index_http.proofs.Words.{arith, head_text, reply_head}
+use Rattle.std.proofs.Common.{codes, decimal}
 use Rattle.http.specs.StatusCode.{code_digits}
-use Rattle.index_http.specs.Replies.{head_text, phrase_of, reply_head}
+use Rattle.index_http.specs.Replies.{phrase_of}
 
 -- the pieces of a reply are its head and what stands behind it
 pub head_pieces : (code phrase first second third digits behind : List ℕ)

@@ -1,50 +1,35 @@
 -- The reply to a message that makes no call is the same whoever the users are.
-use Rattle.std.proofs.Common.{◌≡◌, ◌∙◌, ◌⊎◌, inl, inr, ℕ, Bool, true, false, not, cond, List, [], ◌∷◌, ◌++◌, Option, Some, None}
-use Rattle.std.proofs.Common.{is_some, option_map, refl, sym, ap, subst, arith}
-use Rattle.std.proofs.lemmas.List.{append_cancel_left}
-use Rattle.std.specs.Prelude.{if◌then◌else◌, bytes_eq, ⊤}
+use Rattle.index_http.proofs.Words.{◌≡◌, ◌∙◌, ◌⊎◌, inl, inr, ℕ, Bool, true, false, List, [], ◌∷◌, ◌++◌, Option, Some, None, refl, sym, ap}
+use Rattle.index_http.proofs.Words.{subst, arith, append_cancel_left, if◌then◌else◌, bytes_eq, read_file_name, read_name, Store, NameRecord}
+use Rattle.index_http.proofs.Words.{Held, Prohibited, FileRow, NameRow, Bytes, held_rows_in, Tables, project_rows_in, by_tables, Field}
+use Rattle.index_http.proofs.Words.{IsMessage, HttpRequest, is_head, is_put, is_reading, Message, Faulty, Whole, Resource, project_page_of}
+use Rattle.index_http.proofs.Words.{root_page_of, Served, IsFaultReply, Acts, InputGetsText, MessageGetsText, ShowsFile, ShowsName}
+use Rattle.index_http.proofs.Words.{ShowsPath, ShowsProject, ShowsResource, ShowsRoot, ShowsRows, ShowsSpelling, call_of, store_reply}
+use Rattle.index_http.proofs.Words.{Reply, reply_text}
+use Rattle.std.proofs.Common.{not, cond}
+use Rattle.std.proofs.Common.{is_some, option_map}
+use Rattle.std.specs.Prelude.{⊤}
 use Rattle.std.specs.FinMap.{get}
 use Rattle.std.specs.Option.{option_map_or}
-use Rattle.index_names.specs.FileName.{read_file_name}
-use Rattle.index_names.specs.Project.{read_name}
-use Rattle.index_rules.specs.declared.answer.Fault.TheVariants.{Store}
 use Rattle.index_rules.specs.declared.call.Request.{Request}
-use Rattle.index_rules.specs.declared.records.NameRecord.{NameRecord}
-use Rattle.index_rules.specs.declared.records.NameRecord.TheVariants.{Held, Prohibited}
 use Rattle.index_rules.specs.declared.records.UserRecord.{UserRecord}
-use Rattle.index_rules.specs.declared.rows.FileRow.{FileRow}
-use Rattle.index_rules.specs.declared.rows.NameRow.{NameRow}
 use Rattle.index_rules.specs.declared.standing.Standing.{Standing}
 use Rattle.index_rules.specs.FirstTables.{first_record, first_tables}
 use Rattle.index_rules.specs.Looks.{with_users}
-use Rattle.index_rules.specs.Maps.{Bytes, Map}
-use Rattle.index_rules.specs.TableRows.{held_rows_in}
-use Rattle.index_rules.specs.Tables.{Tables}
+use Rattle.index_rules.specs.Maps.{Map}
 use Rattle.index_rules.proofs.KeyLemmas.{same-refl}
 use Rattle.index_rules.proofs.StandsOn.{StandsFor-opened}
-use Rattle.index_desk.specs.Projects.{project_rows_in}
-use Rattle.index_desk.specs.Rules.{by_tables}
 use Rattle.index_desk.specs.Standings.{standing_in, standing_of_record}
 use Rattle.index_json.specs.StandingText.{standing_text_of}
-use Rattle.index_message.specs.Fields.{Field}
-use Rattle.index_message.specs.Messages.{IsMessage}
-use Rattle.index_message.specs.Requests.{HttpRequest}
-use Rattle.index_message.specs.Resources.{is_head, is_put, is_reading}
-use Rattle.index_message.specs.declared.message.Message.{Message}
-use Rattle.index_message.specs.declared.message.Message.TheVariants.{Faulty, Whole}
 use Rattle.index_message.specs.declared.fault.MessageFault.TheVariants.{BadBody}
-use Rattle.index_message.specs.declared.resource.Resource.{Resource}
 use Rattle.index_message.specs.declared.resource.Resource.TheVariants as resource
 use Rattle.index_message.proofs.MessageLemmas.{at_most_one}
-use Rattle.index_pages.specs.Pages.{project_page_of, root_page_of}
-use Rattle.index_pages.specs.declared.served.Served.{Served}
-use Rattle.index_http.specs.Ends.{IsFaultReply}
-use Rattle.index_http.specs.Exchanges.{Acts, InputGetsText, MessageGetsText, RedirectsToProject}
-use Rattle.index_http.specs.Exchanges.{RequestGetsText, ShowsFile, ShowsName, ShowsPage, ShowsPath, ShowsProject, ShowsResource, ShowsRoot}
-use Rattle.index_http.specs.Exchanges.{ShowsRows, ShowsSpelling, asked_by, body_reply, call_at, call_of, store_reply}
+use Rattle.index_http.specs.Exchanges.{RedirectsToProject}
+use Rattle.index_http.specs.Exchanges.{RequestGetsText, ShowsPage}
+use Rattle.index_http.specs.Exchanges.{asked_by, body_reply, call_at}
 use Rattle.index_http.specs.Hides.{HidesTokens, InputMayGet, MayGet, MayGetToken, RefutesShownTokens, get_of_name, makes_no_call}
 use Rattle.index_http.specs.Hides.{token_of_user}
-use Rattle.index_http.specs.Replies.{Reply, json_reply, message_reply, reply_text}
+use Rattle.index_http.specs.Replies.{json_reply, message_reply}
 use Rattle.index_http.specs.Shows.{GivesMessage}
 use Rattle.index_http.proofs.ChoiceLemmas.{one_type}
 use Rattle.index_http.proofs.FaultReplies.{first_of, no_fault_reply}

@@ -1,32 +1,20 @@
 -- The reply over tables that stand for a legal history is what the history gives.
-use Rattle.std.proofs.Common.{◌≡◌, ℕ, Bool, true, false, inl, inr, refl, sym, subst, List, Option, Some, None, Result, Ok, Err}
-use Rattle.std.specs.Prelude.{bytes_eq, is_some}
-use Rattle.index_names.specs.FileName.{read_file_name}
-use Rattle.index_names.specs.Project.{read_name}
-use Rattle.index_rules.specs.Maps.{Bytes}
-use Rattle.index_rules.specs.Tables.{Tables}
+use Rattle.index_http.proofs.Words.{◌≡◌, ℕ, Bool, true, false, inl, inr, refl, sym, subst, List, Option, Some, None, Result, Ok, Err}
+use Rattle.index_http.proofs.Words.{bytes_eq, read_file_name, read_name, Bytes, Tables, Call, by_tables, Field, HttpRequest, is_put}
+use Rattle.index_http.proofs.Words.{is_reading, Message, Faulty, Whole, Resource, Served, ReplyEnds, Acts, InputGetsText, MessageGetsText}
+use Rattle.index_http.proofs.Words.{ShowsFile, ShowsName, ShowsPath, ShowsProject, ShowsResource, ShowsRoot, ShowsSpelling, call_of, Reply}
+use Rattle.index_http.proofs.Words.{IoEnd, ReadFault, OutOfMemory, WriteFault, Cut}
+use Rattle.std.specs.Prelude.{is_some}
 use Rattle.index_rules.specs.History.{History}
 use Rattle.index_rules.specs.StandsFor.{StandsFor}
 use Rattle.index_rules.specs.Legal.{history_after, IsLegal}
-use Rattle.index_rules.specs.declared.call.Call.{Call}
 use Rattle.index_rules.proofs.StandsOn.{CarriesOn-answer}
-use Rattle.index_desk.specs.Rules.{by_history, by_tables}
+use Rattle.index_desk.specs.Rules.{by_history}
 use Rattle.index_desk.proofs.RulesLemmas.{body_by_history, held_rows_by_history, project_rows_by_history, standing_by_history}
-use Rattle.index_message.specs.Fields.{Field}
-use Rattle.index_message.specs.Requests.{HttpRequest}
-use Rattle.index_message.specs.Resources.{is_put, is_reading}
-use Rattle.index_message.specs.declared.message.Message.{Message}
-use Rattle.index_message.specs.declared.message.Message.TheVariants.{Faulty, Whole}
-use Rattle.index_message.specs.declared.resource.Resource.{Resource}
 use Rattle.index_message.specs.declared.resource.Resource.TheVariants as resource
-use Rattle.index_pages.specs.declared.served.Served.{Served}
 use Rattle.index_desk.specs.ByRules.{StandsAfter}
-use Rattle.index_http.specs.Ends.{EndsBy, ReplyEnds}
-use Rattle.index_http.specs.Exchanges.{Acts, InputGetsText, IsFaultless, MessageGetsText, RequestGetsReply, ShowsFile, ShowsName, ShowsPath}
-use Rattle.index_http.specs.Exchanges.{ShowsProject, ShowsResource, ShowsRoot, ShowsSpelling, call_of}
-use Rattle.index_http.specs.Replies.{Reply}
-use Rattle.index_http.specs.declared.connection.IoEnd.{IoEnd}
-use Rattle.index_http.specs.declared.connection.IoEnd.TheVariants.{ReadFault, OutOfMemory, WriteFault, Cut}
+use Rattle.index_http.specs.Ends.{EndsBy}
+use Rattle.index_http.specs.Exchanges.{IsFaultless, RequestGetsReply}
 
 -- ---- looks
 

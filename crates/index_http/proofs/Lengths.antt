@@ -1,5 +1,6 @@
 -- The lengths of what stands in the head of a reply.
-use Rattle.std.proofs.Common.{◌≡◌, ℕ, zero, suc, ◌<◌, ◌≤◌, Bool, true, ◌&&◌, List, [], Option, Some, length, nat_le, refl, sym, subst}
+use Rattle.index_http.proofs.Words.{◌≡◌, ℕ, zero, suc, ◌<◌, ◌≤◌, Bool, true, List, [], Option, Some, length, refl, sym, subst}
+use Rattle.std.proofs.Common.{◌&&◌, nat_le}
 use Rattle.std.proofs.Common.{unwrap_or}
 use Rattle.std.proofs.lemmas.Bool.{and_parts, leb-true}
 use Rattle.std.proofs.lemmas.Bool.Decides.{Decides-below_and}

@@ -12,3 +12,4 @@ pub mod RestLemmas
 pub mod ChoiceLemmas
 pub mod FaultReplies
 pub mod HideLemmas
+mod Words

@@ -1,22 +1,15 @@
 -- Pages: what is known of their length, and that head and text are the reply.
-use Rattle.std.proofs.Common.{◌≡◌, ◌⊎◌, ℕ, ◌+◌, ◌≤◌, inl, inr, refl, sym, subst, ◌++◌, length, take, Option, Some, None, Result, Ok, Err}
-use Rattle.std.proofs.Common.{arith, length-append}
+use Rattle.index_http.proofs.Words.{◌≡◌, ◌⊎◌, ℕ, ◌+◌, ◌≤◌, inl, inr, refl, sym, subst, ◌++◌, length, take, Option, Some, None, Result, Ok}
+use Rattle.index_http.proofs.Words.{Err, arith, length-append, Appends, HasFailed, Bytes, most_bytes, Served, store_reply, MeasuresPage}
+use Rattle.index_http.proofs.Words.{PageShown, page_reply, SendsLessThanText, SendsText, IoEnd, ReadFault, OutOfMemory, WriteFault, Cut}
 use Rattle.std.specs.Prelude.{min}
-use Rattle.std.specs.Io.KnownBytes.{Appends}
 use Rattle.std.proofs.KnownBytes.{Appends-trans}
 use Rattle.std.proofs.Math.Seq.{take-append-add}
-use Rattle.index_io.specs.Counts.{HasFailed, last_count}
-use Rattle.index_rules.specs.Maps.{Bytes}
+use Rattle.index_io.specs.Counts.{last_count}
 use Rattle.index_rules.specs.declared.answer.Fault.TheVariants as fault
-use Rattle.index_pages.specs.Ends.{most_bytes}
-use Rattle.index_pages.specs.declared.served.Served.{Served}
-use Rattle.index_http.specs.Exchanges.{store_reply}
-use Rattle.index_http.specs.PagePasses.{IsMeasured, MeasuresPage}
-use Rattle.index_http.specs.PageShows.{PageShown, after_head}
-use Rattle.index_http.specs.Replies.{page_reply}
-use Rattle.index_http.specs.Sends.{SendsFirstBytes, SendsLessThanText, SendsText}
-use Rattle.index_http.specs.declared.connection.IoEnd.{IoEnd}
-use Rattle.index_http.specs.declared.connection.IoEnd.TheVariants.{ReadFault, OutOfMemory, WriteFault, Cut}
+use Rattle.index_http.specs.PagePasses.{IsMeasured}
+use Rattle.index_http.specs.PageShows.{after_head}
+use Rattle.index_http.specs.Sends.{SendsFirstBytes}
 
 -- ---- the length of a page
 

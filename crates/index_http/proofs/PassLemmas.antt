@@ -1,40 +1,34 @@
 -- The text of a page, from the walk over its rows to its end.
-use Rattle.std.proofs.Common.{◌≡◌, ℕ, [], ◌++◌, ◌∷◌, ◌<◌, ◌≤◌, ◌⊎◌, List, append_assoc, append-nil, length, take, true, false, ◌∙◌, ap}
-use Rattle.std.proofs.Common.{refl, subst, sym, arith, length-append, Ok, Err, inl, inr}
-use Rattle.std.specs.Prelude.{IfErr, OnOk, Result, Option, None, Some, Bool, is_err, option_map}
+use Rattle.index_http.proofs.Words.{◌≡◌, ℕ, [], ◌++◌, ◌∷◌, ◌<◌, ◌≤◌, ◌⊎◌, List, append_assoc, append-nil, length, take, true, false, ◌∙◌}
+use Rattle.index_http.proofs.Words.{ap, refl, subst, sym, arith, length-append, Ok, Err, inl, inr, is_err, option_map, Appends, Keeps}
+use Rattle.index_http.proofs.Words.{HasFailed, Bytes, CountsStoreFault, Tables, Walks, has_fault, Fault, Ghosts, WalksProject, PageStops}
+use Rattle.index_http.proofs.Words.{PageTakes, state_of, IsOpen, MeasuresPage, WritesPageText, fault_of, SendsLessThanText, SendsText}
+use Rattle.index_http.proofs.Words.{SinkStep, Cut}
+use Rattle.std.specs.Prelude.{IfErr, OnOk, Result, Option, None, Some, Bool}
 use Rattle.std.proofs.Math.Seq.{take-append_seam}
 use Rattle.std.specs.Borrow.{MutBor}
-use Rattle.std.specs.Io.KnownBytes.{Appends, Keeps}
 use Rattle.std.proofs.KnownBytes.{Keeps-refl}
-use Rattle.index_io.specs.Counts.{HasFailed}
 use Rattle.index_io.specs.declared.sink.Sink.{Ghosts as Outs}
-use Rattle.index_rules.specs.Maps.{Bytes}
 use Rattle.index_rules.specs.Rows.{Took}
-use Rattle.index_rules.specs.StoreFaults.{CountsStoreFault, ends_by_store, fails_by_store}
-use Rattle.index_rules.specs.Tables.{Tables}
-use Rattle.index_rules.specs.Walks.{Walks, has_fault}
-use Rattle.index_rules.specs.declared.answer.Fault.{Fault}
+use Rattle.index_rules.specs.StoreFaults.{ends_by_store, fails_by_store}
 use Rattle.index_rules.specs.declared.answer.Fault.TheVariants as fault
-use Rattle.index_rules.specs.declared.books.Books.{Ghosts}
 use Rattle.index_rules.specs.declared.rows.WalkEnd.{WalkEnd}
 use Rattle.index_rules.specs.declared.rows.WalkEnd.TheVariants as walk
 use Rattle.index_desk.specs.Looks.{LeavesTables, ReadsTables, WalksTables}
 use Rattle.index_desk.proofs.LeavesLemmas.{never_falls}
-use Rattle.index_desk.specs.Projects.{WalksProject}
 use Rattle.index_pages.specs.Rest.{Rest, IsWholeOf}
 use Rattle.index_pages.specs.Ends.{WritesPage, SinkState, count_of}
-use Rattle.index_pages.specs.States.{Begins, CountsWritten, EndsPage, IsFresh, IsFront, PageStops, PageTakes, RowTextIsTaken, StopsPage}
-use Rattle.index_pages.specs.States.{StopsText, TextState, page_state, state_of}
+use Rattle.index_pages.specs.States.{Begins, CountsWritten, EndsPage, IsFresh, IsFront, RowTextIsTaken, StopsPage}
+use Rattle.index_pages.specs.States.{StopsText, TextState, page_state}
 use Rattle.index_pages.specs.declared.end.PageEnd.{PageEnd}
 use Rattle.index_pages.specs.declared.end.PageEnd.TheVariants as page_end
 use Rattle.index_pages.specs.declared.text.PageText.{PageText}
 use Rattle.index_pages.proofs.TakerLemmas.{walks_by}
 use Rattle.index_pages.proofs.TextLemmas.{taken_of}
-use Rattle.index_http.specs.PagePasses.{EndsText, IsCutShort, IsOpen, KeepsTables, MeasuresPage, MeasuresText, SendsPage, WritesPageIn}
-use Rattle.index_http.specs.PagePasses.{WritesPageText, fault_in, fault_of, look_of_text, measured_by, sent_by}
-use Rattle.index_http.specs.Sends.{SendsLessThanText, SendsText, is_cut, is_silent, is_write_fault}
-use Rattle.index_http.specs.Steps.{DeskStep, SinkStep, StaysHonest}
-use Rattle.index_http.specs.declared.connection.IoEnd.TheVariants.{Cut}
+use Rattle.index_http.specs.PagePasses.{EndsText, IsCutShort, KeepsTables, MeasuresText, SendsPage, WritesPageIn}
+use Rattle.index_http.specs.PagePasses.{fault_in, look_of_text, measured_by, sent_by}
+use Rattle.index_http.specs.Sends.{is_cut, is_silent, is_write_fault}
+use Rattle.index_http.specs.Steps.{DeskStep, StaysHonest}
 use Rattle.index_http.specs.declared.page_text.TextEnd.{TextEnd}
 use Rattle.index_http.specs.declared.page_text.TextEnd.TheVariants.{Page, Walk}
 

@@ -1,19 +1,12 @@
 -- The page of some rows is no front of that with a row more: so what may still be either of them is not all of it.
-use Rattle.std.proofs.Common.{◌≡◌, ◌∙◌, ◌++◌, ◌∷◌, Bool, true, false, List, [], ap, sym, append_assoc, None}
-use Rattle.std.proofs.lemmas.List.{append_cancel_left}
+use Rattle.index_http.proofs.Words.{◌≡◌, ◌∙◌, ◌++◌, ◌∷◌, Bool, true, false, List, [], ap, sym, append_assoc, None, append_cancel_left}
+use Rattle.index_http.proofs.Words.{flat_map, if◌then◌else◌, Bytes, NameRecord, Held, Prohibited, FileRow, NameRow, IsOpen}
 use Rattle.std.proofs.lemmas.List.Concat.{flat_map-append}
-use Rattle.std.specs.List.{flat_map}
-use Rattle.std.specs.Prelude.{◌==◌, if◌then◌else◌}
-use Rattle.index_rules.specs.Maps.{Bytes}
-use Rattle.index_rules.specs.declared.records.NameRecord.{NameRecord}
-use Rattle.index_rules.specs.declared.records.NameRecord.TheVariants.{Held, Prohibited}
-use Rattle.index_rules.specs.declared.rows.FileRow.{FileRow}
-use Rattle.index_rules.specs.declared.rows.NameRow.{NameRow}
+use Rattle.std.specs.Prelude.{◌==◌}
 use Rattle.index_pages.specs.Html.{bottom, file_anchor, name_anchor, project_top}
 use Rattle.index_pages.specs.Parts.{file_text, files_bottom, files_top, html_rest, json_rest, name_line, once, project_rest, root_bottom}
 use Rattle.index_pages.specs.Parts.{root_rest, root_start, root_step}
 use Rattle.index_pages.specs.Versions.{with_release, with_releases}
-use Rattle.index_http.specs.PagePasses.{IsOpen}
 use Rattle.index_pages.proofs.JsonLemmas.{file-members, json-next, name_text-is}
 
 -- ---- texts that differ early

@@ -1,25 +1,13 @@
 -- What was found first and then sent is shown.
-use Rattle.std.proofs.Common.{◌≡◌, ◌∙◌, Bool, true, false, refl, List, Option, Some, None, Result, Ok}
-use Rattle.std.specs.Prelude.{◌&&◌, not, option_map}
-use Rattle.index_rules.specs.Maps.{Bytes}
-use Rattle.index_rules.specs.Tables.{Tables}
-use Rattle.index_rules.specs.declared.rows.FileRow.{FileRow}
-use Rattle.index_rules.specs.declared.books.Books.{Ghosts}
+use Rattle.index_http.proofs.Words.{◌≡◌, ◌∙◌, Bool, true, false, refl, List, Option, Some, None, Result, Ok, option_map, Bytes, Tables}
+use Rattle.index_http.proofs.Words.{FileRow, Ghosts, project_rows_in, by_tables, project_page_of, Served, ShowsProject, ShowsRows}
+use Rattle.index_http.proofs.Words.{PageShown, Reply, SinkStep, at_desk, IoEnd, leaves_on, look_leaves}
+use Rattle.std.specs.Prelude.{◌&&◌, not}
 use Rattle.index_desk.specs.Looks.{LooksAt}
 use Rattle.index_caching.specs.Pages.{text_in}
-use Rattle.index_desk.specs.Projects.{project_rows_in}
-use Rattle.index_desk.specs.Rules.{by_tables}
-use Rattle.index_pages.specs.Pages.{project_page_of}
-use Rattle.index_pages.specs.declared.served.Served.{Served}
-use Rattle.index_http.specs.Exchanges.{ShowsProject, ShowsRows}
-use Rattle.index_http.specs.PageShows.{PageShown}
-use Rattle.index_http.specs.Replies.{Reply}
 use Rattle.index_http.specs.Shown.{LeadsTo, ReplyShowsFound, is_page_to_show, look_for}
 use Rattle.index_http.specs.Shows.{LookShows}
-use Rattle.index_http.specs.Steps.{SinkStep, at_desk}
-use Rattle.index_http.specs.declared.connection.IoEnd.{IoEnd}
 use Rattle.index_http.specs.declared.get.ToShow.{ToShow}
-use Rattle.index_desk.proofs.LeavesLemmas.{leaves_on, look_leaves}
 use Rattle.index_http.proofs.EndLemmas.{ends_shown_map, shown_map}
 use Rattle.index_http.proofs.Failures.{lasts_map}
 

@@ -1,11 +1,10 @@
 -- A list, cut at the first byte that is a separator.
-use Rattle.std.proofs.Common.{◌≡◌, ◌≢◌, ℕ, zero, suc, ◌+◌, ◌<◌, true, false, ◌==◌, List, [], ◌∷◌, length, get_or, refl, ap, ◌∙◌, arith}
-use Rattle.std.proofs.Common.{take, drop}
-use Rattle.std.proofs.lemmas.Bool.Decides.{nat_tests}
+use Rattle.index_pages.proofs.Words.{◌≡◌, ℕ, suc, ◌+◌, ◌<◌, true, false, ◌==◌, List, [], ◌∷◌, length, get_or, refl, ap, ◌∙◌, arith, take}
+use Rattle.index_pages.proofs.Words.{drop, nat_tests, byte, cut_at}
+use Rattle.std.proofs.Common.{◌≢◌, zero}
 use Rattle.std.specs.Prelude.{cond}
 use Rattle.std.specs.List.{onto_first}
-use Rattle.std.specs.Str.{byte}
-use Rattle.index_pages.specs.Accept.{cut_at, are_two}
+use Rattle.index_pages.specs.Accept.{are_two}
 
 -- none of the first n bytes is c
 abbrev pub Lacks : ℕ → ℕ → List ℕ → Type 0

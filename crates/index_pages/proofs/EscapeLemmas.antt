@@ -1,13 +1,10 @@
 -- Texts in JSON: bytes that need no escape stand for themselves.
-use Rattle.std.proofs.Common.{◌≡◌, ℕ, true, false, ◌==◌, [], ◌∷◌, length, refl, arith, Some}
-use Rattle.std.specs.List.{list_all}
+use Rattle.index_pages.proofs.Words.{◌≡◌, ℕ, true, false, ◌==◌, [], ◌∷◌, length, refl, arith, Some, list_all, nat_tests, escape}
+use Rattle.index_pages.proofs.Words.{escape_byte, is_plain, read_digest, Bytes}
 use Rattle.std.proofs.lemmas.Bool.{and_parts, or_parts, not-true, eqb-false, ltb-false}
-use Rattle.std.proofs.lemmas.Bool.Decides.{nat_tests}
-use Rattle.json.specs.Print.{escape, escape_byte}
-use Rattle.json.specs.Run.{is_plain, is_stop}
+use Rattle.json.specs.Run.{is_stop}
 use Rattle.json.proofs.Printed.Strings.{escape_byte_plain}
-use Rattle.index_digest.specs.Digest.{read_digest, is_digest_text, is_text_digit}
-use Rattle.index_rules.specs.Maps.{Bytes}
+use Rattle.index_digest.specs.Digest.{is_digest_text, is_text_digit}
 
 plain-stays : (c : ℕ) → is_plain c ≡ true → escape_byte c ≡ c ∷ []
 plain-stays c plain =

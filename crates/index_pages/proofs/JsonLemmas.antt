@@ -1,22 +1,17 @@
 -- The JSON of a file, and the page by its rows.
-use Rattle.std.proofs.Common.{◌≡◌, ◌++◌, ℕ, Bool, true, false, ◌==◌, List, [], ◌∷◌, length, codes, refl, sym, ap, ◌∙◌, append_assoc}
-use Rattle.std.proofs.Common.{append-nil, Option, Some, None, cond}
+use Rattle.index_pages.proofs.Words.{◌≡◌, ◌++◌, ℕ, Bool, true, false, ◌==◌, List, [], ◌∷◌, length, codes, refl, sym, ap, ◌∙◌, append_assoc}
+use Rattle.index_pages.proofs.Words.{Option, Some, None, cond, flat_map, escape, escape_byte, Data, comma_if, compact_text, items_text}
+use Rattle.index_pages.proofs.Words.{read_digest, text_of, Bytes, FileRow, NameRow, names_of, project_json, root_json, files_bottom}
+use Rattle.index_pages.proofs.Words.{json_text, name_text, once, releases_text, with_release}
+use Rattle.std.proofs.Common.{append-nil}
 use Rattle.std.specs.Prelude.{decimal}
-use Rattle.std.specs.List.{flat_map}
 use Rattle.std.proofs.lemmas.List.Concat.{flat_map-append}
-use Rattle.json.specs.Print.{escape, escape_byte}
 use Rattle.serde_json.proofs.OnLiterals.{serde_json_on_literals}
-use Rattle.serde_json.specs.Data.{Data, number, unsigned, string, object, member}
+use Rattle.serde_json.specs.Data.{number, unsigned, string, object, member}
 use Rattle.serde_json.specs.View.{items_of}
-use Rattle.serde_json.specs.Written.{comma_if, compact_text, items_text}
-use Rattle.index_digest.specs.Digest.{read_digest, text_of}
-use Rattle.index_rules.specs.Maps.{Bytes}
-use Rattle.index_rules.specs.declared.rows.FileRow.{FileRow}
-use Rattle.index_rules.specs.declared.rows.NameRow.{NameRow}
-use Rattle.index_pages.specs.Json.{file_data, hashes, names_of, project_json, reason_data, root_json, url_of, yanked_member}
-use Rattle.index_pages.specs.Parts.{file_front, file_text, files_bottom, files_top, json_rest, json_text, later_member, name_text}
-use Rattle.index_pages.specs.Parts.{names_top, once, releases_text, requires_text, yanked_text}
-use Rattle.index_pages.specs.Versions.{with_release}
+use Rattle.index_pages.specs.Json.{file_data, hashes, reason_data, url_of, yanked_member}
+use Rattle.index_pages.specs.Parts.{file_front, file_text, files_top, json_rest, later_member}
+use Rattle.index_pages.specs.Parts.{names_top, requires_text, yanked_text}
 use Rattle.index_pages.proofs.EscapeLemmas.{digest-plain, escape-plain}
 
 -- ---- the members of a file

@@ -1,18 +1,14 @@
 -- The pages by what is still to be written of them.
-use Rattle.std.proofs.Common.{◌≡◌, ◌∙◌, ◌++◌, ◌∷◌, Bool, true, false, List, [], sym, ap, refl, append_assoc}
+use Rattle.index_pages.proofs.Words.{◌≡◌, ◌∙◌, ◌++◌, ◌∷◌, Bool, true, false, List, [], sym, ap, refl, append_assoc, flat_map, Data}
+use Rattle.index_pages.proofs.Words.{compact_text, items_text, comma_if, Bytes, FileRow, NameRow, bottom, name_anchor, names_of}
+use Rattle.index_pages.proofs.Words.{project_json, root_json, name_text}
 use Rattle.std.specs.Prelude.{codes, if◌then◌else◌}
-use Rattle.std.specs.List.{flat_map}
-use Rattle.serde_json.specs.Data.{Data}
 use Rattle.serde_json.specs.View.{items_of}
-use Rattle.serde_json.specs.Written.{compact_text, items_text, comma_if}
-use Rattle.index_rules.specs.Maps.{Bytes}
 use Rattle.index_rules.specs.declared.records.NameRecord.{NameRecord}
 use Rattle.index_rules.specs.declared.records.NameRecord.TheVariants.{Held, Prohibited}
-use Rattle.index_rules.specs.declared.rows.FileRow.{FileRow}
-use Rattle.index_rules.specs.declared.rows.NameRow.{NameRow}
-use Rattle.index_pages.specs.Html.{anchor_of_name, bottom, name_anchor, project_html, root_html}
-use Rattle.index_pages.specs.Json.{name_data, names_of, project_json, root_json}
-use Rattle.index_pages.specs.Parts.{name_text, project_rest, root_rest, root_start, root_step}
+use Rattle.index_pages.specs.Html.{anchor_of_name, project_html, root_html}
+use Rattle.index_pages.specs.Json.{name_data}
+use Rattle.index_pages.specs.Parts.{project_rest, root_rest, root_start, root_step}
 use Rattle.index_pages.proofs.JsonLemmas.{json-whole, names-whole}
 
 -- ---- the page of a project

@@ -1,7 +1,5 @@
 -- Texts that are put together from pieces.
-use Rattle.std.proofs.Common.{◌≡◌, ◌++◌, subst, append_assoc}
-use Rattle.index_rules.specs.Maps.{Bytes}
-use Rattle.index_pages.specs.Pieces.{ExtendsText}
+use Rattle.index_pages.proofs.Words.{◌≡◌, ◌++◌, subst, append_assoc, Bytes, ExtendsText}
 
 -- two texts, one after the other
 pub adds_both : {O : Type 0} {holds : O → Bytes → Type 0} {before between after : O} {first second : Bytes}

@@ -1,8 +1,6 @@
 -- Rows that were given to a taker, seen as rows that were given to its state: what a walk says of a page, in the words of a page's own
 -- contracts.
-use Rattle.std.proofs.Common.{◌≡◌, ◌∙◌, List, [], ◌∷◌, ap, Ok, Err}
-use Rattle.std.specs.Prelude.{Result}
-use Rattle.index_rules.specs.Rows.{Took, StoppedAt}
+use Rattle.index_pages.proofs.Words.{◌≡◌, ◌∙◌, List, [], ◌∷◌, ap, Ok, Err, Result, Took, StoppedAt}
 use Rattle.index_rules.specs.Walks.{Walks}
 use Rattle.index_rules.specs.declared.rows.WalkEnd.{WalkEnd}
 use Rattle.index_rules.specs.declared.rows.WalkEnd.TheVariants.{Stopped, OutOfMemory, Store}

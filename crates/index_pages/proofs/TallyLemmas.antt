@@ -1,18 +1,16 @@
 -- The best claims, item by item, are the greatest ones.
-use Rattle.std.proofs.Common.{◌≡◌, ℕ, suc, ◌<◌, ◌⊎◌, inl, inr, Bool, true, false, ◌||◌, List, [], ◌∷◌, ◌++◌, length, get_or, refl, sym, ap}
-use Rattle.std.proofs.Common.{◌∙◌, arith, drop, map, Bor, Option, Some, None, cond}
-use Rattle.std.proofs.lemmas.Bool.Decides.{nat_tests}
+use Rattle.index_pages.proofs.Words.{◌≡◌, ℕ, suc, ◌<◌, inl, inr, Bool, true, false, ◌||◌, List, [], ◌∷◌, ◌++◌, length, get_or, refl, sym}
+use Rattle.index_pages.proofs.Words.{ap, ◌∙◌, arith, drop, map, Bor, Option, Some, None, cond, nat_tests, option_map_or, byte, list_any}
+use Rattle.index_pages.proofs.Words.{AllByRecursion, item_of, items_of, cut_at, after, after_all, items_left, no_tally}
+use Rattle.std.proofs.Common.{◌⊎◌}
 use Rattle.std.proofs.Math.Seq.{drop-cons}
-use Rattle.std.specs.Option.{option_map_or}
-use Rattle.std.specs.Str.{byte}
-use Rattle.std.specs.List.{list_any, AllByRecursion}
 use Rattle.index_pages.specs.declared.served.Served.{Served}
 use Rattle.index_pages.specs.declared.served.Served.TheVariants.{PlainHtml, Html, Json}
 use Rattle.index_pages.specs.declared.tally.Claim.{Claim}
 use Rattle.index_pages.specs.declared.tally.Tally.{Tally}
-use Rattle.index_pages.specs.Accept.{Item, item_of, items_of, cut_at, is_readable, no_claim, claim, IsAtMost, SomeOf, IsQuality}
+use Rattle.index_pages.specs.Accept.{Item, is_readable, no_claim, claim, IsAtMost, SomeOf, IsQuality}
 use Rattle.index_pages.specs.Accept.{IsFirstGreatest, anything, or_anything, names, names_all_beside, specificity}
-use Rattle.index_pages.specs.Tally.{is_above, better, best_from, after, after_all, items_left, no_tally, quality_on}
+use Rattle.index_pages.specs.Tally.{is_above, better, best_from, quality_on}
 
 -- ---- the items
 

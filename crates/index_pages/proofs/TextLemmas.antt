@@ -1,13 +1,12 @@
 -- The text of a page, put together from the texts of its rows.
-use Rattle.std.proofs.Common.{◌≡◌, ◌≤◌, ◌<◌, ℕ, ◌+◌, ◌++◌, ◌∷◌, [], List, length, take, drop, sym, ◌∙◌, ap, subst, refl, arith}
-use Rattle.std.proofs.Common.{append_assoc, length-append, IfErr, IfOk, Ok, Err, None, Some, zero-add, inl, inr}
-use Rattle.std.specs.Prelude.{Result}
+use Rattle.index_pages.proofs.Words.{◌≡◌, ◌≤◌, ◌<◌, ℕ, ◌+◌, ◌++◌, ◌∷◌, [], List, length, take, drop, sym, ◌∙◌, ap, subst, refl, arith}
+use Rattle.index_pages.proofs.Words.{append_assoc, Ok, Err, None, Some, inl, inr, Result, Bytes, Took, StoppedAt}
+use Rattle.std.proofs.Common.{length-append, IfErr, IfOk, zero-add}
 use Rattle.std.proofs.lemmas.List.{take-append-drop, append-nil}
 use Rattle.std.proofs.Math.Seq.{take-append_seam}
 use Rattle.std.specs.Io.KnownBytes.{Appends}
 use Rattle.std.proofs.KnownBytes.{Appends-nil, Appends-trans}
-use Rattle.index_rules.specs.Maps.{Bytes}
-use Rattle.index_rules.specs.Rows.{Took, StoppedAt, WasGiven}
+use Rattle.index_rules.specs.Rows.{WasGiven}
 use Rattle.index_pages.specs.Rest.{Rest, IsNext}
 use Rattle.index_pages.specs.Ends.{Closes, IsCaused, SinkGetsRow, SinkGetsRowFront, SinkGetsText, SinkState, StoreOnlyIfTooLong, WritesPage}
 use Rattle.index_pages.specs.Ends.{count_of, most_bytes}

@@ -1,15 +1,14 @@
 -- The versions of a page: each release at its place makes a list that rises strictly and has exactly the releases.
-use Rattle.std.proofs.Common.{◌≡◌, Bool, true, false, ◌||◌, List, [], ◌∷◌, refl, sym, ap, ◌∙◌}
+use Rattle.index_pages.proofs.Words.{◌≡◌, Bool, true, false, ◌||◌, List, [], ◌∷◌, refl, sym, ap, ◌∙◌, AllByRecursion, list_any, Bytes}
+use Rattle.index_pages.proofs.Words.{FileRow, with_release}
 use Rattle.std.specs.declared.cmp.Ordering.{Ordering}
 use Rattle.std.specs.declared.cmp.Ordering.TheVariants.{Less, Equal, Greater}
 use Rattle.std.specs.Ordering.{match_ordering, ordering_reverse}
-use Rattle.std.specs.List.{AllByRecursion, list_any}
 use Rattle.std.specs.List.Sorted.{IsStrictlySortedBy}
 use Rattle.std.proofs.lemmas.Cmp.{nat_list_cmp_total}
 use Rattle.std.proofs.lemmas.Map.Lookups.{exact_bytes}
-use Rattle.index_rules.specs.Maps.{Bytes, bytes_cmp, same}
-use Rattle.index_rules.specs.declared.rows.FileRow.{FileRow}
-use Rattle.index_pages.specs.Versions.{with_releases, with_release, ListsReleases}
+use Rattle.index_rules.specs.Maps.{bytes_cmp, same}
+use Rattle.index_pages.specs.Versions.{with_releases, ListsReleases}
 
 -- ---- the order
 

@@ -1,14 +1,13 @@
 -- The users by token stay those of the users through a change.
-use Rattle.std.proofs.Common.{◌≡◌, Bool, true, false, cond, ◌&&◌, inl, inr, refl, sym, ap, ◌∙◌, subst, Option, Some, None, option_map}
-use Rattle.std.proofs.Common.{is_some, Result, Ok, Err, OnOk, OnErr}
-use Rattle.std.specs.Option.{option_map_or}
-use Rattle.std.specs.FinMap.{empty, get, get-empty, insert, remove, contains_key}
-use Rattle.std.proofs.lemmas.Bool.{false≢true}
-use Rattle.index_rules.specs.declared.records.UserRecord.{UserRecord}
-use Rattle.index_rules.specs.Maps.{Bytes, Map, Pairs, same, bytes_cmp, pair_cmp}
-use Rattle.index_rules.proofs.OwnerLists.{same-is}
+use Rattle.index_plain.proofs.Words.{◌≡◌, Bool, true, false, cond, ◌&&◌, refl, sym, ap, ◌∙◌, subst, Option, Some, None, option_map, is_some}
+use Rattle.index_plain.proofs.Words.{Err, option_map_or, empty, get, get-empty, insert, remove, false≢true, UserRecord, Bytes, Map, Pairs}
+use Rattle.index_plain.proofs.Words.{same, bytes_cmp, same-is, AreBearers}
+use Rattle.std.proofs.Common.{inl, inr}
+use Rattle.std.proofs.Common.{Result, Ok, OnOk, OnErr}
+use Rattle.std.specs.FinMap.{contains_key}
+use Rattle.index_rules.specs.Maps.{pair_cmp}
 use Rattle.index_rules.proofs.KeyLemmas.{same-refl, cases_same, get-put, has-put, has-without}
-use Rattle.index_plain.specs.Bearers.{is_bearer, AreBearers}
+use Rattle.index_plain.specs.Bearers.{is_bearer}
 
 -- whether the token of a user who may be known has this digest
 abbrev has_token : Bytes → Option UserRecord → Bool

@@ -5,3 +5,4 @@ pub mod OwnerLemmas
 pub mod BearerLemmas
 pub mod UserLemmas
 pub mod RowLemmas
+mod Words

@@ -1,22 +1,14 @@
 -- The owners of a name, and what stands at a name in a table by pairs.
-use Rattle.std.proofs.Common.{◌≡◌, not, sym, ap, ◌∙◌, List, [], Option, Some, None, is_some}
-use Rattle.std.specs.Ordering.{eq_by_cmp}
-use Rattle.std.specs.List.{list_any}
-use Rattle.std.specs.List.Sorted.{IsStrictlySortedBy}
-use Rattle.std.specs.BTreeMap.{BTreeMap, is_at}
+use Rattle.index_plain.proofs.Words.{◌≡◌, not, sym, ap, ◌∙◌, List, [], Option, Some, None, is_some, eq_by_cmp, list_any, IsStrictlySortedBy}
+use Rattle.index_plain.proofs.Words.{BTreeMap, is_at, empty, get, get-empty, insert, retain_keys, nat_list_cmp_total, exact_bytes, Bytes}
+use Rattle.index_plain.proofs.Words.{Map, Pairs, bytes_cmp, Tables, without_name, map_of, pairs_of, without_first}
 use Rattle.std.specs.BTreeMap as tree
-use Rattle.std.specs.FinMap.{empty, get, get-empty, insert, retain_keys}
-use Rattle.std.proofs.lemmas.Cmp.{nat_list_cmp_total}
-use Rattle.std.proofs.lemmas.Map.Lookups.{exact_bytes}
 use Rattle.std.proofs.lemmas.Map.Made.{is_some-lookup}
 use Rattle.std.proofs.lemmas.Map.Text.{is_eq-slice_cmp}
-use Rattle.index_rules.specs.Maps.{Bytes, Map, PairMap, Pairs, bytes_cmp}
-use Rattle.index_rules.specs.Tables.{Tables, owners_in}
-use Rattle.index_rules.specs.Effect.{without_name}
+use Rattle.index_rules.specs.Maps.{PairMap}
+use Rattle.index_rules.specs.Tables.{owners_in}
 use Rattle.index_rules.proofs.Rising.{same_rising}
 use Rattle.index_rules.proofs.OwnerLists.{list_any-owners_in, IsStrictlySortedBy-owners_in}
-use Rattle.index_plain.specs.Trees.{map_of}
-use Rattle.index_plain.specs.Pairs.{pairs_of, without_first}
 use Rattle.index_plain.proofs.TreeLemmas.{get_map}
 use Rattle.index_plain.proofs.PairLemmas.{inner_of, get_pairs, pairs_alone}
 

@@ -1,18 +1,16 @@
 -- A map of maps as one map from pairs, look-up by look-up.
-use Rattle.std.proofs.Common.{◌≡◌, Bool, true, false, cond, not, refl, sym, ap, ◌∙◌, List, [], ◌∷◌, ◌++◌, Option, Some, None}
+use Rattle.index_plain.proofs.Words.{◌≡◌, Bool, true, false, cond, not, refl, sym, ap, ◌∙◌, List, [], ◌∷◌, ◌++◌, Option, Some, None}
+use Rattle.index_plain.proofs.Words.{Ordering, Less, Equal, eq_by_cmp, is_eq, IsTotalOrder, eq_by_cmp_equiv, Equal-is, FinMap}
+use Rattle.index_plain.proofs.Words.{IsAntisymmetric, empty, get, insert, remove, entries, find, get-empty, get-entries, get-from_entries}
+use Rattle.index_plain.proofs.Words.{get-insert, get-remove, get-retain_keys, same_map, find-where_key, BTreeMap, map_of, pairs_of}
+use Rattle.index_plain.proofs.Words.{without_first}
 use Rattle.std.proofs.Common.{option_and_then}
-use Rattle.std.specs.declared.cmp.Ordering.{Ordering}
-use Rattle.std.specs.declared.cmp.Ordering.TheVariants.{Less, Equal, Greater}
-use Rattle.std.specs.Ordering.{eq_by_cmp, is_eq, ordering_then}
-use Rattle.std.specs.Cmp.{IsTotalOrder, eq_by_cmp_equiv, Equal-is}
+use Rattle.std.specs.declared.cmp.Ordering.TheVariants.{Greater}
+use Rattle.std.specs.Ordering.{ordering_then}
 use Rattle.std.proofs.lemmas.Cmp.{on_total, then_total}
 use Rattle.std.proofs.lemmas.Map.Lookups.{exact_pairs}
-use Rattle.std.specs.FinMap.{FinMap, IsAntisymmetric, empty, get, insert, remove, entries, find, get-empty, get-entries, get-from_entries}
-use Rattle.std.specs.FinMap.{get-insert, get-remove, get-retain_keys, same_map}
-use Rattle.std.specs.FinMap.Entries.{where_key, find-where_key}
-use Rattle.std.specs.BTreeMap.{BTreeMap}
-use Rattle.index_plain.specs.Trees.{map_of}
-use Rattle.index_plain.specs.Pairs.{by_both, entries_at, entries_of_all, pairs_of, without_first}
+use Rattle.std.specs.FinMap.Entries.{where_key}
+use Rattle.index_plain.specs.Pairs.{by_both, entries_at, entries_of_all}
 
 abbrev or_else : {X : Type 0} → Option X → Option X → Option X
 or_else None y = y

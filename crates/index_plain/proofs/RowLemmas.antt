@@ -1,15 +1,9 @@
 -- The rows of the entries of a table, one entry after another.
-use Rattle.std.proofs.Common.{◌≡◌, true, false, cond, refl, ap, ◌∙◌, List, [], ◌∷◌, ◌++◌, map, filter}
-use Rattle.index_rules.specs.declared.records.FileRecord.{FileRecord}
-use Rattle.index_rules.specs.declared.records.NameRecord.{NameRecord}
+use Rattle.index_plain.proofs.Words.{◌≡◌, true, false, cond, refl, ap, ◌∙◌, List, [], ◌∷◌, ◌++◌, map, filter, FileRecord, NameRecord, Bytes}
+use Rattle.index_plain.proofs.Words.{Tables, is_undeleted_of, name_row, is_held_row, file_row_in, rows_of_file}
 use Rattle.index_rules.specs.declared.rows.FileRow.{FileRow}
 use Rattle.index_rules.specs.declared.rows.NameRow.{NameRow}
-use Rattle.index_rules.specs.Maps.{Bytes}
-use Rattle.index_rules.specs.Tables.{Tables}
-use Rattle.index_rules.specs.Sound.{is_undeleted_of}
 use Rattle.index_rules.specs.Rows.{StoppedAmong}
-use Rattle.index_rules.specs.TableRows.{name_row, is_held_row, file_row_in}
-use Rattle.index_plain.specs.RowsOf.{rows_of_file}
 
 -- the rows of the held names among these
 abbrev pub held_rows_of : List (Bytes × NameRecord) → List NameRow

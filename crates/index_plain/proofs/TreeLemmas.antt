@@ -1,19 +1,16 @@
 -- What `BTreeMap`'s clauses say of the finite map that it is.
-use Rattle.std.proofs.Common.{◌≡◌, Bool, true, false, cond, refl, sym, ap, ◌∙◌, List, [], ◌∷◌, map, T, ◌&&◌, Option, Some, None, IsSome}
-use Rattle.std.proofs.Common.{is_some}
-use Rattle.std.specs.declared.cmp.Ordering.{Ordering}
-use Rattle.std.specs.Ordering.{eq_by_cmp, is_eq}
-use Rattle.std.specs.Cmp.{IsTotalOrder, eq_by_cmp_equiv, Equal-is, tied_itself}
-use Rattle.std.specs.FinMap.{FinMap, IsAntisymmetric, entries, entries_sorted, is_sorted, get-entries, get, insert, remove, find}
-use Rattle.std.specs.FinMap.{get-from_entries, get-insert, get-remove, same_map}
-use Rattle.std.specs.FinMap.Entries.{below_all, same_entries}
+use Rattle.index_plain.proofs.Words.{◌≡◌, Bool, true, false, cond, refl, sym, ap, ◌∙◌, List, [], ◌∷◌, map, T, ◌&&◌, Option, Some, None}
+use Rattle.index_plain.proofs.Words.{is_some, Ordering, eq_by_cmp, is_eq, IsTotalOrder, eq_by_cmp_equiv, Equal-is, FinMap, IsAntisymmetric}
+use Rattle.index_plain.proofs.Words.{entries, entries_sorted, is_sorted, get-entries, get, insert, remove, find, get-from_entries}
+use Rattle.index_plain.proofs.Words.{get-insert, get-remove, same_map, below_all, IsStrictlySortedBy, Less, BTreeMap, is_at, map_of}
+use Rattle.index_plain.proofs.Words.{with_at}
+use Rattle.std.proofs.Common.{IsSome}
+use Rattle.std.specs.Cmp.{tied_itself}
+use Rattle.std.specs.FinMap.Entries.{same_entries}
 use Rattle.std.specs.List.{AllByRecursion}
-use Rattle.std.specs.List.Sorted.{IsStrictlySortedBy}
-use Rattle.std.specs.declared.cmp.Ordering.TheVariants.{Less}
-use Rattle.std.specs.BTreeMap.{BTreeMap, is_at, Updates}
+use Rattle.std.specs.BTreeMap.{Updates}
 use Rattle.std.specs.BTreeMap as tree
 use Rattle.std.specs.Map.{lookup}
-use Rattle.index_plain.specs.Trees.{map_of, with_at}
 
 both : (a b : Bool) → T a → T b → T (a && b)
 both true b p q = q

@@ -1,13 +1,7 @@
 -- Who bears a token, by the pairs of digests and users.
-use Rattle.std.proofs.Common.{◌≡◌, Bool, true, false, sym, ap, ◌∙◌, subst, Option, Some, None, option_map, is_some}
-use Rattle.std.specs.Option.{option_map_or}
-use Rattle.std.specs.FinMap.{get}
-use Rattle.std.proofs.lemmas.Bool.{false≢true}
-use Rattle.index_rules.specs.declared.records.UserRecord.{UserRecord}
-use Rattle.index_rules.specs.Maps.{Bytes, Pairs, same}
-use Rattle.index_rules.specs.Tables.{Tables}
+use Rattle.index_plain.proofs.Words.{◌≡◌, Bool, true, false, sym, ap, ◌∙◌, subst, Option, Some, None, option_map, is_some, option_map_or}
+use Rattle.index_plain.proofs.Words.{get, false≢true, UserRecord, Bytes, Pairs, same, Tables, AreBearers}
 use Rattle.index_rules.specs.Facts.{IsBearer}
-use Rattle.index_plain.specs.Bearers.{AreBearers}
 
 -- whether the token of a user who may be known has this digest
 abbrev has_token : Bytes → Option UserRecord → Bool

@@ -1,14 +1,8 @@
 -- An accepted call: no refusal applies, and it is not so already.
-use Rattle.std.proofs.Common.{◌≡◌, Bool, true, false, cond, not, ◌&&◌, ◌||◌, ◌==◌, inl, inr, refl, sym, ap, ◌∙◌, List, [], ◌∷◌, Option}
-use Rattle.std.proofs.Common.{Some, None, is_some, find, unwrap_or}
-use Rattle.std.proofs.lemmas.Bool.{false≢true, cases_Bool}
-use Rattle.index_rules.specs.declared.call.Call.{Call}
-use Rattle.index_rules.specs.declared.answer.Refusal.{Refusal}
-use Rattle.index_rules.specs.declared.answer.Refusal.TheVariants.{BadMoment, BadToken}
-use Rattle.index_rules.specs.Refusals.{number_of}
-use Rattle.index_rules.specs.Facts.{Facts}
+use Rattle.index_rules.proofs.Words.{◌≡◌, Bool, true, false, cond, not, ◌&&◌, ◌||◌, ◌==◌, inl, inr, refl, sym, ap, ◌∙◌, List, [], ◌∷◌}
+use Rattle.index_rules.proofs.Words.{Option, Some, None, is_some, find, unwrap_or, false≢true, cases_Bool, Call, Refusal, BadMoment}
+use Rattle.index_rules.proofs.Words.{BadToken, number_of, Facts, Accept, applies, refusals_of, is_already, verdict_of, verdict_on}
 use Rattle.index_rules.proofs.RefusalNumbers.{number_of-is}
-use Rattle.index_rules.specs.Verdict.{Accept, applies, refusals_of, is_already, verdict_of, verdict_on}
 
 -- none of these passes the test
 abbrev pub NonePasses : {A : Type 0} → (A → Bool) → List A → Type 0

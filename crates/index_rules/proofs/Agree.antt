@@ -1,30 +1,14 @@
 -- Tables that stand for a history say of each call what the history says.
-use Rattle.std.proofs.Common.{◌≡◌, Bool, true, false, cond, not, ◌&&◌, ◌||◌, ◌⊎◌, inl, inr, refl, sym, ap, ◌∙◌, List, [], ◌∷◌, Option, Some}
-use Rattle.std.proofs.Common.{None, is_some, find, option_map, option_and_then}
-use Rattle.std.specs.List.{list_any, list_all}
-use Rattle.std.specs.Option.{option_map_or}
-use Rattle.std.specs.FinMap.{get, entries, keys}
-use Rattle.std.proofs.lemmas.Bool.{cases_Bool, and_parts, or_cases, or_left, or_right, false≢true}
-use Rattle.index_rules.specs.declared.call.Call.{Call}
-use Rattle.index_rules.specs.declared.call.Request.{Request}
-use Rattle.index_rules.specs.declared.call.Request.TheVariants.{AddUser, SetToken}
-use Rattle.index_rules.specs.declared.records.UserRecord.{UserRecord}
-use Rattle.index_rules.specs.Maps.{Bytes, same}
-use Rattle.index_rules.specs.Users.{read_user}
-use Rattle.index_rules.specs.Texts.{read_token}
-use Rattle.index_rules.specs.Tables.{Tables}
-use Rattle.index_rules.specs.Requests.{user_key, token_key, name_key, file_key, release_key}
-use Rattle.index_rules.specs.Facts.{HasOneBearer, bearer_in, caller_of, facts_in, of_both, at_both, owns_in, owns_alone_in, yank_in}
-use Rattle.index_rules.specs.Facts.{is_banned_in, has_release_in}
-use Rattle.index_rules.specs.Verdict.{bears, verdict_on, verdict_now}
-use Rattle.index_rules.specs.Effect.{or_empty}
-use Rattle.index_rules.specs.FirstTables.{first_record}
-use Rattle.index_rules.specs.History.{History, begins, more, is_read_as}
-use Rattle.index_rules.specs.PastUsers.{user_after, user_by, with_read, with_token, users_after, users_by, bearer_after}
-use Rattle.index_rules.specs.PastNames.{owns_after, is_given_after, owns_alone_after, receivers_after, yank_after}
-use Rattle.index_rules.specs.PastFiles.{is_banned_after, has_release_after}
-use Rattle.index_rules.specs.StandsFor.{StandsFor, name_after, file_after, case_record_after}
-use Rattle.index_rules.specs.Legal.{caller_after, facts_after, verdict_after}
+use Rattle.index_rules.proofs.Words.{◌≡◌, Bool, true, false, cond, not, ◌&&◌, ◌||◌, ◌⊎◌, inl, inr, refl, sym, ap, ◌∙◌, List, [], ◌∷◌}
+use Rattle.index_rules.proofs.Words.{Option, Some, None, is_some, find, option_map, option_and_then, list_any, list_all, option_map_or, get}
+use Rattle.index_rules.proofs.Words.{entries, keys, cases_Bool, and_parts, or_cases, or_left, or_right, false≢true, Call, Request, AddUser}
+use Rattle.index_rules.proofs.Words.{SetToken, UserRecord, Bytes, same, read_user, read_token, Tables, user_key, token_key, name_key}
+use Rattle.index_rules.proofs.Words.{file_key, release_key, HasOneBearer, bearer_in, caller_of, facts_in, of_both, at_both, owns_in}
+use Rattle.index_rules.proofs.Words.{owns_alone_in, yank_in, is_banned_in, has_release_in, bears, verdict_on, verdict_now, or_empty}
+use Rattle.index_rules.proofs.Words.{first_record, History, begins, more, is_read_as, user_after, user_by, with_read, with_token}
+use Rattle.index_rules.proofs.Words.{users_after, users_by, bearer_after, owns_after, is_given_after, owns_alone_after, receivers_after}
+use Rattle.index_rules.proofs.Words.{yank_after, is_banned_after, has_release_after, StandsFor, name_after, file_after, case_record_after}
+use Rattle.index_rules.proofs.Words.{caller_after, facts_after, verdict_after}
 use Rattle.index_rules.proofs.OwnerLists.{same-is}
 use Rattle.index_rules.proofs.KeyLemmas.{same_truth}
 use Rattle.index_rules.proofs.EntryLemmas.{get-found, get-missed, find-passes, list_all-at, list_all-from, each_owner, each_pair}

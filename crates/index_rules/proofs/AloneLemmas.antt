@@ -1,28 +1,15 @@
 -- The entries of one name, with those on users, are a legal history, and its calls have the same verdicts there.
-use Rattle.std.proofs.Common.{◌≡◌, ◌⊎◌, inl, inr, Bool, true, false, cond, not, ◌&&◌, ◌||◌, refl, sym, ap, ◌∙◌, List, Option, Some, None}
-use Rattle.std.proofs.Common.{is_some, option_map, option_and_then, sum_by}
-use Rattle.std.specs.List.{list_any, list_all}
-use Rattle.std.specs.Option.{option_map_or}
-use Rattle.std.specs.FinMap.{get, entries, retain_keys}
-use Rattle.std.proofs.lemmas.Bool.{cases_Bool, and_parts, and_right, or_left, false≢true}
-use Rattle.index_names.specs.FileName.{project_of, release_of}
-use Rattle.index_rules.specs.declared.call.Call.{Call}
-use Rattle.index_rules.specs.declared.call.Request.{Request}
-use Rattle.index_rules.specs.declared.call.Request.TheVariants.{AddUser, SetToken, Upload, Delete, BanFile}
-use Rattle.index_rules.specs.declared.records.FileRecord.{FileRecord}
-use Rattle.index_rules.specs.Maps.{Bytes, Map, same}
-use Rattle.index_rules.specs.Requests.{read_file, user_key, token_key, name_key, file_key, release_key}
-use Rattle.index_rules.specs.Facts.{is_undeleted_of_release, of_both, at_both}
-use Rattle.index_rules.specs.Verdict.{verdict_on}
-use Rattle.index_rules.specs.Sound.{charged_size}
-use Rattle.index_rules.specs.History.{History, begins, more, is_read_as}
-use Rattle.index_rules.specs.PastUsers.{user_after, bearer_after}
-use Rattle.index_rules.specs.PastNames.{greatest, is_held_now, owns_after, receivers_after, owns_alone_after, yank_after}
-use Rattle.index_rules.specs.PastFiles.{uploaded_files_after, is_banned_after, is_charged_after, size_after, charge_after}
-use Rattle.index_rules.specs.PastFiles.{undeleted_count_after, has_release_after}
-use Rattle.index_rules.specs.StandsFor.{record_of_state, name_after, file_of_upload, file_after, record_of_case, case_record_after}
-use Rattle.index_rules.specs.Legal.{IsLegal, facts_after}
-use Rattle.index_rules.specs.Laws.{is_kept, history_of_name, StandsAlone}
+use Rattle.index_rules.proofs.Words.{◌≡◌, ◌⊎◌, inl, inr, Bool, true, false, cond, not, ◌&&◌, ◌||◌, refl, sym, ap, ◌∙◌, List, Option, Some}
+use Rattle.index_rules.proofs.Words.{None, is_some, option_map, option_and_then, sum_by, list_any, list_all, option_map_or, get, entries}
+use Rattle.index_rules.proofs.Words.{retain_keys, cases_Bool, and_parts, and_right, or_left, false≢true, project_of, release_of, Call}
+use Rattle.index_rules.proofs.Words.{Request, AddUser, SetToken, Upload, Delete, BanFile, FileRecord, Bytes, Map, same, read_file, user_key}
+use Rattle.index_rules.proofs.Words.{token_key, name_key, file_key, release_key, is_undeleted_of_release, of_both, at_both, verdict_on}
+use Rattle.index_rules.proofs.Words.{charged_size, History, begins, more, is_read_as, user_after, bearer_after, greatest, is_held_now}
+use Rattle.index_rules.proofs.Words.{owns_after, receivers_after, owns_alone_after, yank_after, uploaded_files_after, is_banned_after}
+use Rattle.index_rules.proofs.Words.{is_charged_after, size_after, charge_after, undeleted_count_after, has_release_after, record_of_state}
+use Rattle.index_rules.proofs.Words.{name_after, file_of_upload, file_after, record_of_case, case_record_after, IsLegal, facts_after}
+use Rattle.index_rules.proofs.Words.{is_kept, history_of_name}
+use Rattle.index_rules.specs.Laws.{StandsAlone}
 use Rattle.index_rules.proofs.OwnerLists.{same-is}
 use Rattle.index_rules.proofs.KeyLemmas.{same-refl, cases_same, same_truth, get-kept}
 use Rattle.index_rules.proofs.EntryLemmas.{list_all-at, list_all-from}

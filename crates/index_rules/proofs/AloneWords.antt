@@ -1,32 +1,17 @@
 -- The entries of one name, with those on users, make of that name what the whole history makes of it.
-use Rattle.std.proofs.Common.{◌≡◌, ℕ, Bool, true, false, cond, ◌&&◌, inl, inr, refl, sym, ap, ◌∙◌, List, [], ◌∷◌, length, Option, Some}
-use Rattle.std.proofs.Common.{None, find, option_map}
-use Rattle.std.specs.Option.{option_or}
-use Rattle.std.proofs.lemmas.Bool.{false≢true}
-use Rattle.index_names.specs.Project.{read_name}
-use Rattle.index_names.specs.FileName.{project_of}
-use Rattle.index_names.specs.Release.{read_release}
-use Rattle.index_digest.specs.Digest.{read_digest}
-use Rattle.index_retention.specs.Attempts.{attempt_of}
-use Rattle.index_rules.specs.declared.call.Request.{Request}
-use Rattle.index_rules.specs.declared.call.Request.TheVariants.{AddUser, SetToken, SetQuota, Claim, AddOwner, RemoveOwner, Upload, Delete}
-use Rattle.index_rules.specs.declared.call.Request.TheVariants.{BanFile, Yank, Unyank, Relinquish, Prohibit, Allow, OpenCase, RecordAttempt}
-use Rattle.index_rules.specs.declared.call.Request.TheVariants.{Transfer, CloseCase}
-use Rattle.index_rules.specs.declared.records.UserRecord.{UserRecord}
-use Rattle.index_rules.specs.Maps.{Bytes, same}
-use Rattle.index_rules.specs.Users.{read_user}
-use Rattle.index_rules.specs.Requests.{read_file}
-use Rattle.index_rules.specs.Verdict.{bears}
-use Rattle.index_rules.specs.Effect.{or_empty}
-use Rattle.index_rules.specs.Projects.{first_quota}
-use Rattle.index_rules.specs.History.{History, Entry, begins, more, is_read_as}
-use Rattle.index_rules.specs.PastUsers.{user_after, user_by, users_after, users_by, bearer_after}
-use Rattle.index_rules.specs.PastNames.{State, Free, Held, Prohibited, state_after, state_by, shown_after, shown_by, quota_after, quota_by}
-use Rattle.index_rules.specs.PastNames.{uploads_after, uploads_by, is_given_after, is_given_by, reason_after, reason_by}
-use Rattle.index_rules.specs.PastCases.{Case, case_after, case_by, with_attempt, is_owners_request}
-use Rattle.index_rules.specs.PastFiles.{first_upload_after, first_upload_by, is_undeleted_after, is_undeleted_by, is_banned_by}
-use Rattle.index_rules.specs.PastFiles.{is_banned_after, requires_after, requires_by}
-use Rattle.index_rules.specs.Laws.{is_kept, history_of_name}
+use Rattle.index_rules.proofs.Words.{◌≡◌, ℕ, Bool, true, false, cond, ◌&&◌, inl, inr, refl, sym, ap, ◌∙◌, List, [], ◌∷◌, length, Option}
+use Rattle.index_rules.proofs.Words.{Some, None, find, option_map, option_or, false≢true, read_name, project_of, read_release, read_digest}
+use Rattle.index_rules.proofs.Words.{attempt_of, Request, AddUser, SetToken, SetQuota, Claim, AddOwner, RemoveOwner, Upload, Delete}
+use Rattle.index_rules.proofs.Words.{BanFile, Yank, Unyank, Relinquish, Prohibit, Allow, OpenCase, RecordAttempt, Transfer, CloseCase}
+use Rattle.index_rules.proofs.Words.{UserRecord, Bytes, same, read_user, read_file, bears, or_empty, first_quota, History, Entry, begins}
+use Rattle.index_rules.proofs.Words.{more, is_read_as, user_after, user_by, users_after, users_by, bearer_after, State, Free, Held}
+use Rattle.index_rules.proofs.Words.{Prohibited, state_after, state_by, shown_after, quota_after, uploads_after, is_given_after}
+use Rattle.index_rules.proofs.Words.{is_given_by, reason_after, Case, case_after, case_by, with_attempt, is_owners_request}
+use Rattle.index_rules.proofs.Words.{first_upload_after, first_upload_by, is_undeleted_after, is_undeleted_by, is_banned_by}
+use Rattle.index_rules.proofs.Words.{is_banned_after, requires_after, is_kept, history_of_name}
+use Rattle.index_rules.specs.PastNames.{shown_by, quota_by}
+use Rattle.index_rules.specs.PastNames.{uploads_by, reason_by}
+use Rattle.index_rules.specs.PastFiles.{requires_by}
 use Rattle.index_rules.proofs.KeyLemmas.{same-refl, cases_same}
 
 -- ---- what an entry that is left out leaves alone

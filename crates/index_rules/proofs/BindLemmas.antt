@@ -1,24 +1,11 @@
 -- In a legal history a file name is bound to the digest and the size of its first upload, and a ban of it is for good.
-use Rattle.std.proofs.Common.{◌≡◌, ℕ, Bool, true, false, cond, inl, inr, sym, ap, ◌∙◌, [], Option, Some, None, is_none, length, refl}
-use Rattle.std.specs.Option.{option_or, option_map_or}
-use Rattle.std.specs.FinMap.{get}
-use Rattle.std.proofs.lemmas.Bool.{false≢true, true≢false}
-use Rattle.index_digest.specs.Digest.{read_digest, sha256}
-use Rattle.index_rules.specs.declared.answer.Refusal.TheVariants.{BadDigest, BadFileName, DigestMismatch, FileBanned, FileNameTaken}
-use Rattle.index_rules.specs.declared.call.Call.{Call}
-use Rattle.index_rules.specs.declared.call.Request.{Request}
-use Rattle.index_rules.specs.declared.call.Request.TheVariants.{Upload, BanFile}
-use Rattle.index_rules.specs.Maps.{Bytes}
-use Rattle.index_rules.specs.Tables.{Tables}
-use Rattle.index_rules.specs.Requests.{read_file}
-use Rattle.index_rules.specs.Facts.{facts_in}
-use Rattle.index_rules.specs.Verdict.{Accept, verdict_now}
-use Rattle.index_rules.specs.Effect.{or_empty}
-use Rattle.index_rules.specs.History.{History, begins, more, is_read_as}
-use Rattle.index_rules.specs.PastFiles.{first_upload_after, first_upload_by, is_banned_by, is_banned_after}
-use Rattle.index_rules.specs.StandsFor.{file_after}
-use Rattle.index_rules.specs.Legal.{IsLegal, verdict_after, facts_after}
-use Rattle.index_rules.specs.Laws.{IsUploadOf, HasUpload, BindsFiles, DeclaresBodies, DeclaresBody, IsBanOf, HasBan, KeepsBans}
+use Rattle.index_rules.proofs.Words.{◌≡◌, ℕ, Bool, true, false, cond, inl, inr, sym, ap, ◌∙◌, [], Option, Some, None, is_none, length, refl}
+use Rattle.index_rules.proofs.Words.{option_or, option_map_or, get, false≢true, true≢false, read_digest, sha256, BadDigest, BadFileName}
+use Rattle.index_rules.proofs.Words.{DigestMismatch, FileBanned, FileNameTaken, Call, Request, Upload, BanFile, Bytes, Tables, read_file}
+use Rattle.index_rules.proofs.Words.{facts_in, Accept, verdict_now, or_empty, History, begins, more, is_read_as, first_upload_after}
+use Rattle.index_rules.proofs.Words.{first_upload_by, is_banned_by, is_banned_after, file_after, IsLegal, verdict_after, facts_after}
+use Rattle.index_rules.proofs.Words.{IsUploadOf, HasUpload}
+use Rattle.index_rules.specs.Laws.{BindsFiles, DeclaresBodies, DeclaresBody, IsBanOf, HasBan, KeepsBans}
 use Rattle.index_rules.proofs.KeyLemmas.{same-refl}
 use Rattle.index_rules.proofs.Accepted.{accepted}
 use Rattle.index_rules.proofs.PastReading.{read_itself}

@@ -1,7 +1,7 @@
 -- The count of failures, over several calls.
-use Rattle.std.proofs.Common.{◌≡◌, ℕ, ◌≤◌, ◌⊎◌, inl, arith}
+use Rattle.index_rules.proofs.Words.{◌≡◌, ℕ, ◌≤◌, ◌⊎◌, inl, arith, HasFailed, FailsAtMostOnce}
 use Rattle.std.proofs.lemmas.Grind.{common_steps}
-use Rattle.index_io.specs.Counts.{last_count, HasFailed, FailsAtMostOnce}
+use Rattle.index_io.specs.Counts.{last_count}
 
 -- the count did not fall, or stands at its last value
 abbrev pub NotFewer : ℕ → ℕ → Type 0

@@ -1,17 +1,10 @@
 -- Entries of maps that pass a test, and lists that a test passes whole.
-use Rattle.std.proofs.Common.{◌≡◌, Bool, true, false, cond, not, ◌&&◌, ◌||◌, inl, inr, refl, sym, ap, ◌∙◌, List, [], ◌∷◌, T, Some, None}
-use Rattle.std.proofs.Common.{find}
-use Rattle.std.specs.List.{list_any, list_all}
-use Rattle.std.specs.Ordering.{eq_by_cmp, is_eq, is_lt}
-use Rattle.std.specs.declared.cmp.Ordering.{Ordering}
-use Rattle.std.specs.declared.cmp.Ordering.TheVariants.{Less, Equal, Greater}
-use Rattle.std.specs.FinMap.{get, entries, entries_sorted, keys, contains_key, contains_key-keys, get-entries, is_sorted}
+use Rattle.index_rules.proofs.Words.{◌≡◌, Bool, true, false, cond, not, ◌&&◌, ◌||◌, inl, inr, refl, sym, ap, ◌∙◌, List, [], ◌∷◌, T, Some}
+use Rattle.index_rules.proofs.Words.{None, find, list_any, list_all, eq_by_cmp, is_eq, is_lt, Ordering, Less, Equal, Greater, get, entries}
+use Rattle.index_rules.proofs.Words.{entries_sorted, keys, contains_key, contains_key-keys, get-entries, is_sorted, below_all}
+use Rattle.index_rules.proofs.Words.{is_eq-slice_cmp, cases_Bool, and_parts, or_cases, or_left, or_right, and_from, false≢true, Bytes, Map}
+use Rattle.index_rules.proofs.Words.{same, bytes_cmp, pair_cmp, Tables}
 use Rattle.std.specs.FinMap as fin
-use Rattle.std.specs.FinMap.Entries.{below_all}
-use Rattle.std.proofs.lemmas.Map.Text.{is_eq-slice_cmp}
-use Rattle.std.proofs.lemmas.Bool.{cases_Bool, and_parts, or_cases, or_left, or_right, and_from, false≢true}
-use Rattle.index_rules.specs.Maps.{Bytes, Map, same, bytes_cmp, pair_cmp}
-use Rattle.index_rules.specs.Tables.{Tables}
 use Rattle.index_rules.proofs.OwnerLists.{same-is, same_pair}
 use Rattle.index_rules.proofs.KeyLemmas.{same-refl, same-sym}
 

@@ -1,15 +1,7 @@
 -- A sum over a name's undeleted files, after an upload, after a delete and after the end of a name.
-use Rattle.std.proofs.Common.{◌≡◌, ℕ, ◌+◌, true, false, cond, ◌&&◌, inl, inr, refl, sym, ap, ◌∙◌, Option, Some, None, arith}
-use Rattle.std.specs.Option.{option_map_or}
-use Rattle.std.specs.FinMap.{get, insert, entries}
-use Rattle.std.proofs.Math.Bool.{and-false}
-use Rattle.std.proofs.lemmas.Bool.{cases_Bool}
-use Rattle.index_rules.specs.declared.records.FileRecord.{FileRecord}
-use Rattle.index_rules.specs.Maps.{Bytes, same, change_values}
-use Rattle.index_rules.specs.Tables.{Tables}
-use Rattle.index_rules.specs.Verdict.{is_undeleted}
-use Rattle.index_rules.specs.Effect.{as_deleted, as_deleted_of}
-use Rattle.index_rules.specs.Sound.{is_undeleted_of, undeleted_count_in}
+use Rattle.index_rules.proofs.Words.{◌≡◌, ℕ, ◌+◌, true, false, cond, ◌&&◌, inl, inr, refl, sym, ap, ◌∙◌, Option, Some, None, arith}
+use Rattle.index_rules.proofs.Words.{option_map_or, get, insert, entries, and-false, cases_Bool, FileRecord, Bytes, same, change_values}
+use Rattle.index_rules.proofs.Words.{Tables, is_undeleted, as_deleted, as_deleted_of, is_undeleted_of, undeleted_count_in}
 use Rattle.index_rules.proofs.OwnerLists.{same-is}
 use Rattle.index_rules.proofs.Totals.{total_of, total-insert, total-at, total-changed}
 

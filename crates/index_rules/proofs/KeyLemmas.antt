@@ -1,18 +1,12 @@
 -- Texts as keys: the test `same`, and what a map or a map from pairs has after a change.
-use Rattle.std.proofs.Common.{◌≡◌, Bool, true, false, cond, not, ◌&&◌, ◌⊎◌, inl, inr, refl, sym, ap, ◌∙◌, subst, List, [], ◌∷◌, Option}
-use Rattle.std.proofs.Common.{Some, None, is_some, map, option_map, T}
-use Rattle.std.specs.Ordering.{eq_by_cmp, is_lt}
-use Rattle.std.specs.FinMap.{get, insert, remove, retain_keys, contains_key, entries, entries_sorted, is_sorted, get-insert, get-remove}
-use Rattle.std.specs.FinMap.{get-retain_keys, get-entries, get-from_sorted, entries-from_sorted}
+use Rattle.index_rules.proofs.Words.{◌≡◌, Bool, true, false, cond, not, ◌&&◌, ◌⊎◌, inl, inr, refl, sym, ap, ◌∙◌, subst, List, [], ◌∷◌}
+use Rattle.index_rules.proofs.Words.{Option, Some, None, is_some, map, option_map, T, eq_by_cmp, is_lt, get, insert, remove, retain_keys}
+use Rattle.index_rules.proofs.Words.{contains_key, entries, entries_sorted, is_sorted, get-entries, below_all, nat_list_cmp_total}
+use Rattle.index_rules.proofs.Words.{bytes_eq-Decides, is_eq-slice_cmp, exact_bytes, cases_Bool, Bytes, Map, PairMap, Pairs, same}
+use Rattle.index_rules.proofs.Words.{bytes_cmp, change_values, without_name}
+use Rattle.std.specs.FinMap.{get-insert, get-remove}
+use Rattle.std.specs.FinMap.{get-retain_keys, get-from_sorted, entries-from_sorted}
 use Rattle.std.specs.FinMap as fin
-use Rattle.std.specs.FinMap.Entries.{below_all}
-use Rattle.std.proofs.lemmas.Cmp.{nat_list_cmp_total}
-use Rattle.std.proofs.lemmas.Slice.Eq.{bytes_eq-Decides}
-use Rattle.std.proofs.lemmas.Map.Text.{is_eq-slice_cmp}
-use Rattle.std.proofs.lemmas.Map.Lookups.{exact_bytes}
-use Rattle.std.proofs.lemmas.Bool.{cases_Bool}
-use Rattle.index_rules.specs.Maps.{Bytes, Map, PairMap, Pairs, same, bytes_cmp, change_values}
-use Rattle.index_rules.specs.Effect.{without_name}
 use Rattle.index_rules.proofs.OwnerLists.{same-is, pair_total, exact_pair, same_pair}
 
 pub same-refl : (a : Bytes) → same a a ≡ true

@@ -49,3 +49,4 @@ pub mod RetryLemmas
 pub mod RetryUsers
 pub mod LookLemmas
 pub mod WrongRights
+mod Words

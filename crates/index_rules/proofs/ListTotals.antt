@@ -1,14 +1,8 @@
 -- A sum and a test over the entries of a map, taken over a list that has each of its keys.
-use Rattle.std.proofs.Common.{◌≡◌, ℕ, ◌+◌, Bool, true, false, cond, ◌||◌, inl, inr, refl, sym, ap, ◌∙◌, List, [], ◌∷◌, Some, None, is_some}
-use Rattle.std.proofs.Common.{arith, sum_by, find}
-use Rattle.std.specs.Option.{option_map_or}
-use Rattle.std.specs.List.{list_any}
-use Rattle.std.specs.FinMap.{get, insert, remove, entries, same_map}
-use Rattle.std.proofs.lemmas.Bool.{false≢true, or_left, or_right, or_from, or_cases}
-use Rattle.std.proofs.lemmas.Cmp.{nat_list_cmp_total}
-use Rattle.std.proofs.lemmas.Map.Lookups.{exact_bytes}
-use Rattle.std.proofs.lemmas.List.Sums.{sum_by-cons}
-use Rattle.index_rules.specs.Maps.{Bytes, Map}
+use Rattle.index_rules.proofs.Words.{◌≡◌, ℕ, ◌+◌, Bool, true, false, cond, ◌||◌, inl, inr, refl, sym, ap, ◌∙◌, List, [], ◌∷◌, Some, None}
+use Rattle.index_rules.proofs.Words.{is_some, arith, sum_by, find, option_map_or, list_any, get, insert, remove, entries, same_map}
+use Rattle.index_rules.proofs.Words.{false≢true, or_left, or_right, or_cases, nat_list_cmp_total, exact_bytes, sum_by-cons, Bytes, Map}
+use Rattle.std.proofs.lemmas.Bool.{or_from}
 use Rattle.index_rules.proofs.OwnerLists.{same-is}
 use Rattle.index_rules.proofs.KeyLemmas.{same-refl, cases_same}
 use Rattle.index_rules.proofs.PutLemmas.{get-put_here, get-put_other, get-without_here, get-without_other}

@@ -1,5 +1,5 @@
 -- No look reads the users.
-use Rattle.std.proofs.Common.{refl}
+use Rattle.index_rules.proofs.Words.{refl}
 use Rattle.index_rules.specs.Looks.{LooksPassOver}
 
 pub looks_pass_over : LooksPassOver

@@ -1,34 +1,15 @@
 -- In a legal history each entry moves the charges, the states and the owners as its request says.
-use Rattle.std.proofs.Common.{◌≡◌, ℕ, ◌+◌, Bool, true, false, cond, ◌&&◌, inl, inr, refl, sym, ap, ◌∙◌, subst, Option, Some, None, length}
-use Rattle.std.proofs.Common.{option_map, option_and_then, unwrap_or, arith}
-use Rattle.std.specs.Option.{option_map_or}
-use Rattle.std.specs.FinMap.{get, entries}
-use Rattle.std.proofs.Math.Bool.{and-false, and-true}
-use Rattle.std.proofs.lemmas.Bool.{not-false}
-use Rattle.index_names.specs.Project.{read_name}
-use Rattle.index_names.specs.FileName.{project_of, release_of}
-use Rattle.index_digest.specs.Digest.{read_digest}
-use Rattle.index_rules.specs.declared.answer.Refusal.TheVariants.{BadFileName, BadName, NoFile}
-use Rattle.index_rules.specs.declared.call.Call.{Call}
-use Rattle.index_rules.specs.declared.call.Request.{Request}
-use Rattle.index_rules.specs.declared.call.Request.TheVariants.{Claim, AddOwner, RemoveOwner, Upload, Delete, BanFile, Relinquish, Prohibit}
-use Rattle.index_rules.specs.declared.call.Request.TheVariants.{Allow, Transfer}
-use Rattle.index_rules.specs.declared.records.FileRecord.{FileRecord}
-use Rattle.index_rules.specs.Maps.{Bytes, same, change_values}
-use Rattle.index_rules.specs.Users.{read_user}
-use Rattle.index_rules.specs.Tables.{Tables}
-use Rattle.index_rules.specs.Requests.{read_file}
-use Rattle.index_rules.specs.Facts.{facts_in}
-use Rattle.index_rules.specs.Verdict.{Accept, verdict_now, is_undeleted}
-use Rattle.index_rules.specs.Effect.{or_empty, no_file, as_deleted, as_deleted_of, tables_with_call}
-use Rattle.index_rules.specs.Sound.{IsSound, charged_size, charge_in}
-use Rattle.index_rules.specs.History.{History, Entry, begins, more, is_read_as}
-use Rattle.index_rules.specs.PastNames.{State, Free, Held, Prohibited, state_by, state_after, is_held_now, is_given_by, is_given_after}
-use Rattle.index_rules.specs.PastCases.{candidate_after}
-use Rattle.index_rules.specs.PastFiles.{first_upload_after, is_undeleted_after, requires_after, size_after}
-use Rattle.index_rules.specs.StandsFor.{StandsFor, file_of_upload, file_after}
-use Rattle.index_rules.specs.Legal.{IsLegal}
-use Rattle.index_rules.specs.Laws.{MovesCharge, UploadsAnew, may_move_state, may_move_owners, Moves, MovesAsRecorded}
+use Rattle.index_rules.proofs.Words.{◌≡◌, ℕ, ◌+◌, Bool, true, false, cond, ◌&&◌, inl, inr, refl, sym, ap, ◌∙◌, subst, Option, Some, None}
+use Rattle.index_rules.proofs.Words.{length, option_map, option_and_then, unwrap_or, arith, option_map_or, get, entries, and-false}
+use Rattle.index_rules.proofs.Words.{and-true, not-false, read_name, project_of, release_of, read_digest, BadFileName, BadName, NoFile}
+use Rattle.index_rules.proofs.Words.{Call, Request, Claim, AddOwner, RemoveOwner, Upload, Delete, BanFile, Relinquish, Prohibit, Allow}
+use Rattle.index_rules.proofs.Words.{Transfer, FileRecord, Bytes, same, change_values, read_user, Tables, read_file, facts_in, Accept}
+use Rattle.index_rules.proofs.Words.{verdict_now, is_undeleted, or_empty, no_file, as_deleted, as_deleted_of, tables_with_call, IsSound}
+use Rattle.index_rules.proofs.Words.{charged_size, charge_in, History, Entry, begins, more, is_read_as, State, Free, Held, Prohibited}
+use Rattle.index_rules.proofs.Words.{state_by, state_after, is_held_now, is_given_by, is_given_after, candidate_after, first_upload_after}
+use Rattle.index_rules.proofs.Words.{is_undeleted_after, requires_after, size_after, StandsFor, file_of_upload, file_after, IsLegal}
+use Rattle.index_rules.proofs.Words.{may_move_owners}
+use Rattle.index_rules.specs.Laws.{MovesCharge, UploadsAnew, may_move_state, Moves, MovesAsRecorded}
 use Rattle.index_rules.proofs.KeyLemmas.{cases_same}
 use Rattle.index_rules.proofs.PutLemmas.{each_changed}
 use Rattle.index_rules.proofs.Totals.{total_of, total-zero}

@@ -1,20 +1,8 @@
 -- Each call keeps apart who bears which digest.
-use Rattle.std.proofs.Common.{◌≡◌, sym, subst, List, [], ◌∷◌, refl}
-use Rattle.index_rules.specs.declared.answer.Refusal.TheVariants.{BadDigest, BadUser, TokenTaken}
-use Rattle.index_rules.specs.declared.answer.Answer.{Answer}
-use Rattle.index_rules.specs.declared.answer.Answer.TheVariants.{Accepted, Already, Refused, Fault}
-use Rattle.index_rules.specs.declared.call.Call.{Call}
-use Rattle.index_rules.specs.declared.call.Request.{Request}
-use Rattle.index_rules.specs.declared.call.Request.TheVariants.{AddUser, SetToken}
-use Rattle.index_rules.specs.Maps.{Bytes}
-use Rattle.index_rules.specs.Users.{read_user}
-use Rattle.index_rules.specs.Texts.{read_token}
-use Rattle.index_rules.specs.Tables.{Tables}
+use Rattle.index_rules.proofs.Words.{◌≡◌, sym, subst, List, [], ◌∷◌, refl, BadDigest, BadUser, TokenTaken, Answer, Accepted, Already}
+use Rattle.index_rules.proofs.Words.{Refused, Fault, Call, Request, AddUser, SetToken, Bytes, read_user, read_token, Tables, HasOneBearer}
+use Rattle.index_rules.proofs.Words.{facts_in, Accept, verdict_now, or_empty, the_user, tables_with_call, Answers, Runs, tables_after}
 use Rattle.std.specs.Prelude.{ℕ}
-use Rattle.index_rules.specs.Facts.{HasOneBearer, facts_in}
-use Rattle.index_rules.specs.Verdict.{Accept, verdict_now}
-use Rattle.index_rules.specs.Effect.{or_empty, the_user, tables_with_call}
-use Rattle.index_rules.specs.Runs.{Answers, Runs, tables_after}
 use Rattle.index_rules.proofs.Accepted.{accepted}
 use Rattle.index_rules.proofs.SoundUsers.{HasOneBearer-put, not_taken}
 

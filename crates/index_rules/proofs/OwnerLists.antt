@@ -1,19 +1,14 @@
 -- The owners of a name as a list: it strictly rises, and has each of them.
-use Rattle.std.proofs.Common.{◌≡◌, true, false, cond, ◌&&◌, ◌||◌, refl, sym, ap, ◌∙◌, List, [], ◌∷◌, map, filter}
-use Rattle.std.specs.declared.cmp.Ordering.{Ordering}
-use Rattle.std.specs.declared.cmp.Ordering.TheVariants.{Less, Equal, Greater}
-use Rattle.std.specs.Ordering.{ordering_then, eq_by_cmp, is_eq}
-use Rattle.std.specs.Cmp.{IsTotalOrder, tied_itself}
-use Rattle.std.specs.List.{AllByRecursion, list_any}
-use Rattle.std.specs.List.Sorted.{IsStrictlySortedBy}
-use Rattle.std.specs.FinMap.{IsAntisymmetric, contains_key-keys, keys}
-use Rattle.std.proofs.lemmas.Cmp.{nat_list_cmp_total, then_total, on_total}
-use Rattle.std.proofs.lemmas.Slice.Eq.{bytes_eq-Decides}
-use Rattle.std.proofs.lemmas.Map.Text.{is_eq-slice_cmp}
-use Rattle.std.proofs.lemmas.Map.Lookups.{exact_bytes, exact_pairs}
-use Rattle.index_rules.specs.Maps.{Bytes, same, bytes_cmp, pair_cmp}
-use Rattle.index_rules.specs.Tables.{Tables, owners_in}
-use Rattle.index_rules.specs.Facts.{owns_in}
+use Rattle.index_rules.proofs.Words.{◌≡◌, true, false, cond, ◌&&◌, ◌||◌, refl, sym, ap, ◌∙◌, List, [], ◌∷◌, map, Ordering, Less, Equal}
+use Rattle.index_rules.proofs.Words.{Greater, eq_by_cmp, is_eq, IsTotalOrder, AllByRecursion, list_any, IsStrictlySortedBy, IsAntisymmetric}
+use Rattle.index_rules.proofs.Words.{contains_key-keys, keys, nat_list_cmp_total, bytes_eq-Decides, is_eq-slice_cmp, exact_bytes, Bytes}
+use Rattle.index_rules.proofs.Words.{same, bytes_cmp, pair_cmp, Tables, owns_in}
+use Rattle.std.proofs.Common.{filter}
+use Rattle.std.specs.Ordering.{ordering_then}
+use Rattle.std.specs.Cmp.{tied_itself}
+use Rattle.std.proofs.lemmas.Cmp.{then_total, on_total}
+use Rattle.std.proofs.lemmas.Map.Lookups.{exact_pairs}
+use Rattle.index_rules.specs.Tables.{owners_in}
 use Rattle.index_rules.proofs.Rising.{IsStrictlySortedBy-keys}
 
 pub same-is : (a b : Bytes) → same a b ≡ true → a ≡ b

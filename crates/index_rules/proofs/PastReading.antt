@@ -1,11 +1,6 @@
 -- What a word of a history is if an entry's request is read as a key, and if it is not.
-use Rattle.std.proofs.Common.{◌≡◌, false, cond, ap, ◌∙◌, Option, Some, None, is_none, option_map}
-use Rattle.std.proofs.lemmas.Bool.{true≢false}
-use Rattle.index_names.specs.FileName.{Spelled, read_file_name}
-use Rattle.index_rules.specs.Maps.{Bytes, same}
-use Rattle.index_rules.specs.Requests.{read_file}
-use Rattle.index_rules.specs.Effect.{or_empty}
-use Rattle.index_rules.specs.History.{is_read_as}
+use Rattle.index_rules.proofs.Words.{◌≡◌, false, cond, ap, ◌∙◌, Option, Some, None, is_none, option_map, true≢false, Spelled}
+use Rattle.index_rules.proofs.Words.{read_file_name, Bytes, same, read_file, or_empty, is_read_as}
 use Rattle.index_rules.proofs.KeyLemmas.{same-refl}
 
 -- what is not unread is read as its key

@@ -1,19 +1,10 @@
 -- What tables add up and find of a name's files is what a history does, if they have the history's files.
-use Rattle.std.proofs.Common.{◌≡◌, ℕ, Bool, true, false, cond, ◌&&◌, refl, sym, ap, ◌∙◌, Option, Some, None, is_some, option_map, sum_by}
-use Rattle.std.specs.Option.{option_map_or}
-use Rattle.std.specs.List.{list_any}
-use Rattle.std.specs.FinMap.{get}
-use Rattle.std.proofs.lemmas.Bool.{false≢true}
-use Rattle.index_names.specs.FileName.{project_of, release_of}
-use Rattle.index_rules.specs.declared.records.FileRecord.{FileRecord}
-use Rattle.index_rules.specs.Maps.{Bytes, same}
-use Rattle.index_rules.specs.Tables.{Tables}
-use Rattle.index_rules.specs.Facts.{is_undeleted_of_release, has_release_in}
-use Rattle.index_rules.specs.Sound.{is_undeleted_of, charged_size, charge_in, undeleted_count_in}
-use Rattle.index_rules.specs.History.{History}
-use Rattle.index_rules.specs.PastFiles.{first_upload_after, is_undeleted_after, requires_after, uploaded_files_after, charge_after}
-use Rattle.index_rules.specs.PastFiles.{undeleted_count_after, is_charged_after, size_after, has_release_after}
-use Rattle.index_rules.specs.StandsFor.{file_of_upload, file_after}
+use Rattle.index_rules.proofs.Words.{◌≡◌, ℕ, Bool, true, false, cond, ◌&&◌, refl, sym, ap, ◌∙◌, Option, Some, None, is_some, option_map}
+use Rattle.index_rules.proofs.Words.{sum_by, option_map_or, list_any, get, false≢true, project_of, release_of, FileRecord, Bytes, same}
+use Rattle.index_rules.proofs.Words.{Tables, is_undeleted_of_release, has_release_in, is_undeleted_of, charged_size, charge_in}
+use Rattle.index_rules.proofs.Words.{undeleted_count_in, History, first_upload_after, is_undeleted_after, requires_after}
+use Rattle.index_rules.proofs.Words.{uploaded_files_after, charge_after, undeleted_count_after, is_charged_after, size_after}
+use Rattle.index_rules.proofs.Words.{has_release_after, file_of_upload, file_after}
 use Rattle.index_rules.proofs.PastWords.{Apart-uploaded, known_is_uploaded, undeleted_known}
 use Rattle.index_rules.proofs.ListTotals.{HasKeys, total-listed, any-listed}
 

@@ -1,26 +1,13 @@
 -- What holds of every history: its uploaded files stand once each and are the known ones, and an undeleted file is known.
-use Rattle.std.proofs.Common.{◌≡◌, ℕ, Bool, true, false, cond, ◌&&◌, ◌||◌, inl, inr, refl, sym, ap, ◌∙◌, List, [], ◌∷◌, Option, Some, None}
-use Rattle.std.proofs.Common.{is_some, option_map, option_and_then, length}
-use Rattle.std.specs.List.{list_any}
-use Rattle.std.specs.Option.{option_or}
-use Rattle.std.proofs.lemmas.Bool.{false≢true, or_left, or_right, cases_Bool}
-use Rattle.index_names.specs.Project.{read_name}
-use Rattle.index_names.specs.FileName.{project_of}
-use Rattle.index_digest.specs.Digest.{read_digest}
-use Rattle.index_rules.specs.declared.call.Request.{Request}
-use Rattle.index_rules.specs.declared.call.Request.TheVariants.{Claim, AddOwner, RemoveOwner, Upload, Delete, BanFile, Prohibit, Transfer}
-use Rattle.index_rules.specs.Maps.{Bytes, same}
-use Rattle.index_rules.specs.Users.{read_user}
-use Rattle.index_rules.specs.Requests.{read_file}
-use Rattle.index_rules.specs.Effect.{or_empty}
-use Rattle.index_rules.specs.Verdict.{is_undeleted}
-use Rattle.index_rules.specs.History.{History, begins, more, is_read_as}
-use Rattle.index_rules.specs.PastUsers.{with_read}
-use Rattle.index_rules.specs.PastNames.{is_given_by, receivers_by, is_given_after, receivers_after}
-use Rattle.index_rules.specs.PastCases.{candidate_after}
-use Rattle.index_rules.specs.PastFiles.{first_upload_after, first_upload_by, is_undeleted_after, is_undeleted_by, requires_after}
-use Rattle.index_rules.specs.PastFiles.{uploaded_files_after, uploaded_files_by, once_more}
-use Rattle.index_rules.specs.StandsFor.{file_of_upload, file_after}
+use Rattle.index_rules.proofs.Words.{◌≡◌, ℕ, Bool, true, false, cond, ◌&&◌, ◌||◌, inl, inr, refl, sym, ap, ◌∙◌, List, [], ◌∷◌, Option, Some}
+use Rattle.index_rules.proofs.Words.{None, is_some, option_map, option_and_then, length, list_any, option_or, false≢true, or_left, or_right}
+use Rattle.index_rules.proofs.Words.{cases_Bool, read_name, project_of, read_digest, Request, Claim, AddOwner, RemoveOwner, Upload, Delete}
+use Rattle.index_rules.proofs.Words.{BanFile, Prohibit, Transfer, Bytes, same, read_user, read_file, or_empty, is_undeleted, History}
+use Rattle.index_rules.proofs.Words.{begins, more, is_read_as, with_read, is_given_by, is_given_after, receivers_after, candidate_after}
+use Rattle.index_rules.proofs.Words.{first_upload_after, first_upload_by, is_undeleted_after, is_undeleted_by, requires_after}
+use Rattle.index_rules.proofs.Words.{uploaded_files_after, file_of_upload, file_after}
+use Rattle.index_rules.specs.PastNames.{receivers_by}
+use Rattle.index_rules.specs.PastFiles.{uploaded_files_by, once_more}
 use Rattle.index_rules.proofs.KeyLemmas.{same-refl, cases_same}
 
 abbrev pub has : List Bytes → Bytes → Bool

@@ -1,11 +1,7 @@
 -- What each key of a map finds after one entry is put, after one is taken away, and after each value is changed.
-use Rattle.std.proofs.Common.{◌≡◌, false, cond, inl, inr, refl, sym, ap, ◌∙◌, subst, Option, Some, None, is_some, option_map}
-use Rattle.std.proofs.Common.{option_and_then}
-use Rattle.std.specs.FinMap.{get, insert, remove, same_map}
-use Rattle.std.proofs.lemmas.Cmp.{nat_list_cmp_total}
-use Rattle.std.proofs.lemmas.Map.Lookups.{exact_bytes}
-use Rattle.std.proofs.lemmas.Bool.{false≢true, cases_Bool}
-use Rattle.index_rules.specs.Maps.{Bytes, Map, same, change_values}
+use Rattle.index_rules.proofs.Words.{◌≡◌, false, cond, inl, inr, refl, sym, ap, ◌∙◌, subst, Option, Some, None, is_some, option_map}
+use Rattle.index_rules.proofs.Words.{option_and_then, get, insert, remove, same_map, nat_list_cmp_total, exact_bytes, false≢true}
+use Rattle.index_rules.proofs.Words.{cases_Bool, Bytes, Map, same, change_values}
 use Rattle.index_rules.proofs.KeyLemmas.{same-refl, same-sym, cases_same, get-put, get-without, get-change_values}
 
 pub other-sym : (a b : Bytes) → same a b ≡ false → same b a ≡ false

@@ -1,14 +1,11 @@
 -- A refusal is known by its number.
-use Rattle.std.proofs.Common.{◌≡◌, ℕ, ◌==◌, true, cond, refl, sym, ap, ◌∙◌, arith}
-use Rattle.std.proofs.lemmas.Bool.Decides.{nat_tests}
-use Rattle.index_rules.specs.declared.answer.Refusal.{Refusal}
-use Rattle.index_rules.specs.declared.answer.Refusal.TheVariants.{BadMoment, BadToken, NotOffice, BadUser, BadName, BadFileName, BadRelease}
-use Rattle.index_rules.specs.declared.answer.Refusal.TheVariants.{BadText, BadDigest, TooLarge, DigestMismatch, QuotaTooLarge, NoUser}
-use Rattle.index_rules.specs.declared.answer.Refusal.TheVariants.{UserExists, TokenTaken, NameProhibited, NoProject, NotOwner, NameHeld}
-use Rattle.index_rules.specs.declared.answer.Refusal.TheVariants.{LastOwner, FilesRemain, NoFile, NoRelease, FileNameTaken, FileBanned}
-use Rattle.index_rules.specs.declared.answer.Refusal.TheVariants.{OverQuota, QuotaBelowCharge, CaseOpen, OwnerCandidate, NoCase}
-use Rattle.index_rules.specs.declared.answer.Refusal.TheVariants.{AttemptsFull, TooFewAttempts, TooEarly, RecentRelease, HomePageActive}
-use Rattle.index_rules.specs.Refusals.{number_of}
+use Rattle.index_rules.proofs.Words.{◌≡◌, ℕ, ◌==◌, true, cond, refl, sym, ap, ◌∙◌, arith, nat_tests, Refusal, BadMoment, BadToken}
+use Rattle.index_rules.proofs.Words.{NotOffice, BadUser, BadName, BadFileName, BadRelease, BadText, BadDigest, TooLarge, DigestMismatch}
+use Rattle.index_rules.proofs.Words.{QuotaTooLarge, NoUser, UserExists, TokenTaken, NameProhibited, NoProject, NotOwner, NameHeld}
+use Rattle.index_rules.proofs.Words.{LastOwner, FilesRemain, NoFile, NoRelease, FileNameTaken, FileBanned, OverQuota, QuotaBelowCharge}
+use Rattle.index_rules.proofs.Words.{CaseOpen, NoCase, TooFewAttempts, TooEarly, RecentRelease, HomePageActive, number_of}
+use Rattle.index_rules.specs.declared.answer.Refusal.TheVariants.{OwnerCandidate}
+use Rattle.index_rules.specs.declared.answer.Refusal.TheVariants.{AttemptsFull}
 
 abbrev refusal_numbered : ℕ → Refusal
 refusal_numbered n =

@@ -1,22 +1,10 @@
 -- An accepted request on a file that is asked again is already so.
-use Rattle.std.proofs.Common.{◌≡◌, ℕ, true, false, not, ◌&&◌, ◌==◌, inl, refl, ap, ◌∙◌, Option, Some, None, length, option_map}
-use Rattle.std.proofs.Common.{option_and_then}
-use Rattle.std.specs.Prelude.{nat_lt}
-use Rattle.std.specs.Option.{option_map_or}
-use Rattle.std.proofs.lemmas.Bool.{eq-eqb}
-use Rattle.index_digest.specs.Digest.{read_digest, sha256}
-use Rattle.index_rules.specs.declared.answer.Refusal.TheVariants.{BadToken, NotOffice, BadFileName, BadText, BadDigest, TooLarge}
-use Rattle.index_rules.specs.declared.answer.Refusal.TheVariants.{DigestMismatch, NoProject, NotOwner, NoFile, FileBanned}
-use Rattle.index_rules.specs.declared.call.Request.{Request}
-use Rattle.index_rules.specs.declared.call.Request.TheVariants.{Upload, Delete, BanFile}
-use Rattle.index_rules.specs.Maps.{Bytes}
-use Rattle.index_rules.specs.Effect.{or_empty}
-use Rattle.index_rules.specs.Requests.{read_file, name_key}
-use Rattle.index_rules.specs.Verdict.{AlreadySo, exceeds_quota, is_other_file, is_undeleted, last_moment}
-use Rattle.index_rules.specs.History.{History}
-use Rattle.index_rules.specs.PastFiles.{first_upload_after, is_banned_after, is_undeleted_after, requires_after}
-use Rattle.index_rules.specs.StandsFor.{name_after, file_after, file_of_upload}
-use Rattle.index_rules.specs.Legal.{IsLegal, facts_after, verdict_after}
+use Rattle.index_rules.proofs.Words.{◌≡◌, ℕ, true, false, not, ◌&&◌, ◌==◌, inl, refl, ap, ◌∙◌, Option, Some, None, length, option_map}
+use Rattle.index_rules.proofs.Words.{option_and_then, nat_lt, option_map_or, eq-eqb, read_digest, sha256, BadToken, NotOffice, BadFileName}
+use Rattle.index_rules.proofs.Words.{BadText, BadDigest, TooLarge, DigestMismatch, NoProject, NotOwner, NoFile, FileBanned, Request, Upload}
+use Rattle.index_rules.proofs.Words.{Delete, BanFile, Bytes, or_empty, read_file, name_key, AlreadySo, exceeds_quota, is_other_file}
+use Rattle.index_rules.proofs.Words.{is_undeleted, last_moment, History, first_upload_after, is_banned_after, is_undeleted_after}
+use Rattle.index_rules.proofs.Words.{requires_after, name_after, file_after, file_of_upload, IsLegal, facts_after, verdict_after}
 use Rattle.index_rules.proofs.Accepted.{accepted}
 use Rattle.index_rules.proofs.KeyLemmas.{same-refl}
 use Rattle.index_rules.proofs.PastReading.{read_itself, read_key, at_key}

@@ -1,12 +1,7 @@
 -- Each accepted request that can be repeated is already so when it is asked again.
-use Rattle.std.proofs.Common.{◌≡◌, ℕ, Bool, true, false, not, refl}
-use Rattle.std.proofs.lemmas.Bool.{false≢true}
-use Rattle.index_rules.specs.declared.call.Request.{Request}
-use Rattle.index_rules.specs.declared.call.Request.TheVariants.{AddUser, SetToken, SetQuota, Claim, AddOwner, RemoveOwner, Upload, Delete}
-use Rattle.index_rules.specs.declared.call.Request.TheVariants.{BanFile, Yank, Unyank, Prohibit, Allow}
-use Rattle.index_rules.specs.Maps.{Bytes}
-use Rattle.index_rules.specs.History.{History, begins, more}
-use Rattle.index_rules.specs.Legal.{IsLegal}
+use Rattle.index_rules.proofs.Words.{◌≡◌, ℕ, Bool, true, false, not, refl, false≢true, Request, AddUser, SetToken, SetQuota, Claim}
+use Rattle.index_rules.proofs.Words.{AddOwner, RemoveOwner, Upload, Delete, BanFile, Yank, Unyank, Prohibit, Allow, Bytes, History, begins}
+use Rattle.index_rules.proofs.Words.{more, IsLegal}
 use Rattle.index_rules.specs.Retries.{RepeatIsAlready, RepeatsAreAlready}
 use Rattle.index_rules.proofs.RetryFiles.{upload_again, delete_again, ban_again}
 use Rattle.index_rules.proofs.RetryNames.{quota_again, claim_again, add_owner_again, remove_owner_again, yank_again, unyank_again}

@@ -1,26 +1,14 @@
 -- An accepted request on a name that is asked again is already so.
-use Rattle.std.proofs.Common.{◌≡◌, ℕ, Bool, true, false, cond, not, ◌&&◌, ◌==◌, refl, ap, ◌∙◌, Option, Some, None, is_none, option_and_then}
-use Rattle.std.specs.Prelude.{nat_lt}
-use Rattle.std.specs.Option.{option_map_or}
-use Rattle.std.proofs.lemmas.Bool.{eq-eqb, and_from, and_left, and_parts, and_right, not_from_false, not_from_true}
-use Rattle.index_names.specs.Project.{read_name}
-use Rattle.index_names.specs.Release.{read_release}
-use Rattle.index_rules.specs.declared.answer.Refusal.TheVariants.{BadToken, NotOffice, BadUser, BadName, BadRelease, BadText, QuotaTooLarge}
-use Rattle.index_rules.specs.declared.answer.Refusal.TheVariants.{NoUser, NoProject, NotOwner, NoRelease, QuotaBelowCharge}
-use Rattle.index_rules.specs.declared.call.Request.{Request}
-use Rattle.index_rules.specs.declared.call.Request.TheVariants.{SetQuota, Claim, AddOwner, RemoveOwner, Yank, Unyank, Prohibit, Allow}
-use Rattle.index_rules.specs.Maps.{Bytes, same}
-use Rattle.index_rules.specs.Projects.{Project}
-use Rattle.index_rules.specs.Users.{read_user}
-use Rattle.index_rules.specs.Effect.{or_empty}
-use Rattle.index_rules.specs.Facts.{at_both, of_both}
-use Rattle.index_rules.specs.Verdict.{Accept, AlreadySo, held_project, is_prohibited, last_moment}
-use Rattle.index_rules.specs.History.{History, is_read_as}
-use Rattle.index_rules.specs.PastUsers.{bearer_after}
-use Rattle.index_rules.specs.PastNames.{State, Free, Held, Prohibited, state_after, quota_after, is_held_now, is_given_after, owns_after}
-use Rattle.index_rules.specs.PastNames.{owns_alone_after, reason_after, yank_after}
-use Rattle.index_rules.specs.StandsFor.{name_after, project_after, record_of_state}
-use Rattle.index_rules.specs.Legal.{facts_after, verdict_after}
+use Rattle.index_rules.proofs.Words.{◌≡◌, ℕ, Bool, true, false, cond, not, ◌&&◌, ◌==◌, refl, ap, ◌∙◌, Option, Some, None, is_none}
+use Rattle.index_rules.proofs.Words.{option_and_then, nat_lt, option_map_or, eq-eqb, and_from, and_parts, and_right, not_from_false}
+use Rattle.index_rules.proofs.Words.{not_from_true, read_name, read_release, BadToken, NotOffice, BadUser, BadName, BadRelease, BadText}
+use Rattle.index_rules.proofs.Words.{QuotaTooLarge, NoUser, NoProject, NotOwner, NoRelease, QuotaBelowCharge, Request, SetQuota, Claim}
+use Rattle.index_rules.proofs.Words.{AddOwner, RemoveOwner, Yank, Unyank, Prohibit, Allow, Bytes, same, Project, read_user, or_empty}
+use Rattle.index_rules.proofs.Words.{at_both, of_both, Accept, AlreadySo, held_project, is_prohibited, last_moment, History, is_read_as}
+use Rattle.index_rules.proofs.Words.{bearer_after, State, Free, Held, Prohibited, state_after, quota_after, is_held_now, is_given_after}
+use Rattle.index_rules.proofs.Words.{owns_after, owns_alone_after, reason_after, yank_after, name_after, project_after, record_of_state}
+use Rattle.index_rules.proofs.Words.{facts_after, verdict_after}
+use Rattle.std.proofs.lemmas.Bool.{and_left}
 use Rattle.index_rules.proofs.Accepted.{accepted}
 use Rattle.index_rules.proofs.KeyLemmas.{same-refl}
 use Rattle.index_rules.proofs.PastReading.{read_key, at_key}

@@ -1,21 +1,11 @@
 -- An accepted request on users that is asked again is already so.
-use Rattle.std.proofs.Common.{◌≡◌, ℕ, Bool, true, false, cond, not, ◌&&◌, inl, inr, refl, sym, ap, ◌∙◌, Option, Some, None, is_some}
-use Rattle.std.proofs.Common.{is_none, unwrap_or, option_map, option_and_then}
-use Rattle.std.specs.Prelude.{nat_lt}
-use Rattle.std.specs.Option.{option_map_or}
-use Rattle.std.proofs.lemmas.Bool.{false≢true, true≢false, cases_Bool, and_right, not_from_true}
-use Rattle.index_rules.specs.declared.answer.Refusal.TheVariants.{BadToken, NotOffice, BadUser, BadDigest, UserExists, NoUser}
-use Rattle.index_rules.specs.declared.call.Request.{Request}
-use Rattle.index_rules.specs.declared.call.Request.TheVariants.{AddUser, SetToken}
-use Rattle.index_rules.specs.declared.records.UserRecord.{UserRecord}
-use Rattle.index_rules.specs.Maps.{Bytes, same}
-use Rattle.index_rules.specs.Users.{read_user}
-use Rattle.index_rules.specs.Texts.{read_token}
-use Rattle.index_rules.specs.Effect.{or_empty, no_user}
-use Rattle.index_rules.specs.Verdict.{AlreadySo, bears, is_taken, is_user_with, last_moment}
-use Rattle.index_rules.specs.History.{History, is_read_as}
-use Rattle.index_rules.specs.PastUsers.{user_after, users_after, bearer_after, with_token}
-use Rattle.index_rules.specs.Legal.{IsLegal, caller_after, facts_after, verdict_after}
+use Rattle.index_rules.proofs.Words.{◌≡◌, ℕ, Bool, true, false, cond, not, ◌&&◌, inl, inr, refl, sym, ap, ◌∙◌, Option, Some, None, is_some}
+use Rattle.index_rules.proofs.Words.{is_none, unwrap_or, option_map, option_and_then, nat_lt, option_map_or, false≢true, true≢false}
+use Rattle.index_rules.proofs.Words.{cases_Bool, and_right, not_from_true, BadToken, NotOffice, BadUser, BadDigest, UserExists, NoUser}
+use Rattle.index_rules.proofs.Words.{Request, AddUser, SetToken, UserRecord, Bytes, same, read_user, read_token, or_empty, no_user}
+use Rattle.index_rules.proofs.Words.{AlreadySo, bears, is_taken, last_moment, History, is_read_as, user_after, users_after, bearer_after}
+use Rattle.index_rules.proofs.Words.{with_token, IsLegal, caller_after, facts_after, verdict_after}
+use Rattle.index_rules.specs.Verdict.{is_user_with}
 use Rattle.index_rules.proofs.Accepted.{accepted, and_not}
 use Rattle.index_rules.proofs.Agree.{bears-some, find-one, users_listed}
 use Rattle.index_rules.proofs.EntryLemmas.{find-passes}

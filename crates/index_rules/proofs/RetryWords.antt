@@ -1,20 +1,10 @@
 -- A call that is made again right after its entry: what it meets, by what it met before.
-use Rattle.std.proofs.Common.{◌≡◌, ℕ, Bool, true, false, cond, not, refl, sym, ap, ◌∙◌, List, [], ◌∷◌, Option, Some, None, is_none, find}
-use Rattle.std.proofs.Common.{option_map, option_and_then}
-use Rattle.std.proofs.lemmas.Bool.{true≢false, not-false}
-use Rattle.index_rules.specs.declared.answer.Refusal.TheVariants.{BadMoment, BadToken}
-use Rattle.index_rules.specs.declared.call.Call.{Call}
-use Rattle.index_rules.specs.declared.call.Request.{Request}
-use Rattle.index_rules.specs.Maps.{Bytes}
-use Rattle.index_rules.specs.Projects.{Project}
-use Rattle.index_rules.specs.Facts.{of_both}
-use Rattle.index_rules.specs.Verdict.{AlreadySo, applies, is_already, is_held, refusals_of, verdict_of}
-use Rattle.index_rules.specs.History.{History, more}
-use Rattle.index_rules.specs.PastUsers.{bearer_after}
-use Rattle.index_rules.specs.PastNames.{State, Free, Held, Prohibited, state_after, owns_after}
-use Rattle.index_rules.specs.PastFiles.{first_upload_after, is_undeleted_after, requires_after}
-use Rattle.index_rules.specs.StandsFor.{name_after, file_after, file_of_upload, project_after, record_of_state}
-use Rattle.index_rules.specs.Legal.{facts_after, verdict_after}
+use Rattle.index_rules.proofs.Words.{◌≡◌, ℕ, Bool, true, false, cond, not, refl, sym, ap, ◌∙◌, List, [], ◌∷◌, Option, Some, None, is_none}
+use Rattle.index_rules.proofs.Words.{find, option_map, option_and_then, true≢false, not-false, BadMoment, BadToken, Call, Request, Bytes}
+use Rattle.index_rules.proofs.Words.{Project, of_both, AlreadySo, applies, is_already, is_held, refusals_of, verdict_of, History, more}
+use Rattle.index_rules.proofs.Words.{bearer_after, State, Free, Held, Prohibited, state_after, owns_after, first_upload_after}
+use Rattle.index_rules.proofs.Words.{is_undeleted_after, requires_after, name_after, file_after, file_of_upload, project_after}
+use Rattle.index_rules.proofs.Words.{record_of_state, facts_after, verdict_after}
 use Rattle.index_rules.proofs.Accepted.{NonePasses}
 
 find_none : {A : Type 0} (p : A → Bool) (xs : List A) → NonePasses p xs → find p xs ≡ None

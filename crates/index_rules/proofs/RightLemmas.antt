@@ -1,48 +1,26 @@
 -- In a legal history each entry changes only what its user may change.
-use Rattle.std.proofs.Common.{◌≡◌, ◌⊎◌, inl, inr, ℕ, Bool, true, false, cond, not, ◌&&◌, refl, sym, ap, ◌∙◌, subst, [], Option, Some, None}
-use Rattle.std.proofs.Common.{is_some, option_map, option_and_then}
-use Rattle.std.specs.Option.{option_map_or}
-use Rattle.std.proofs.lemmas.Bool.{false≢true, true≢false, cases_Bool, or_parts, not-false}
-use Rattle.index_names.specs.Project.{read_name}
-use Rattle.index_names.specs.FileName.{project_of}
-use Rattle.index_retention.specs.declared.attempts.CaseKind.{CaseKind}
-use Rattle.index_rules.specs.declared.answer.Refusal.TheVariants.{NotOffice, NotOwner, NameHeld, NameProhibited, CaseOpen}
-use Rattle.index_rules.specs.declared.call.Call.{Call}
-use Rattle.index_rules.specs.declared.call.Request.{Request}
-use Rattle.index_rules.specs.declared.call.Request.TheVariants.{AddUser, SetToken, SetQuota, Claim, AddOwner, RemoveOwner, Upload, Delete}
-use Rattle.index_rules.specs.declared.call.Request.TheVariants.{BanFile, Yank, Unyank, Relinquish, Prohibit, Allow, OpenCase, RecordAttempt}
-use Rattle.index_rules.specs.declared.call.Request.TheVariants.{Transfer, CloseCase, AnswerCase}
-use Rattle.index_rules.specs.Maps.{Bytes, same}
-use Rattle.index_rules.specs.Requests.{name_key}
-use Rattle.index_rules.specs.Facts.{of_both}
-use Rattle.index_rules.specs.Verdict.{Accept, is_held, is_prohibited, is_of_office, closes_own_case}
-use Rattle.index_rules.specs.History.{History, Entry, begins, more, is_read_as}
-use Rattle.index_rules.specs.PastUsers.{user_after, bearer_after}
-use Rattle.index_rules.specs.PastNames.{State, Free, Held, Prohibited, state_after, shown_after, quota_after, uploads_after, greatest}
-use Rattle.index_rules.specs.PastNames.{is_held_now, is_given_after, owns_after, reason_after}
-use Rattle.index_rules.specs.PastFiles.{is_undeleted_by}
+use Rattle.index_rules.proofs.Words.{◌≡◌, ◌⊎◌, inl, inr, ℕ, Bool, true, false, cond, not, ◌&&◌, refl, sym, ap, ◌∙◌, subst, [], Option, Some}
+use Rattle.index_rules.proofs.Words.{None, is_some, option_map, option_and_then, option_map_or, false≢true, true≢false, cases_Bool}
+use Rattle.index_rules.proofs.Words.{or_parts, not-false, read_name, project_of, CaseKind, NotOffice, NotOwner, NameHeld, NameProhibited}
+use Rattle.index_rules.proofs.Words.{CaseOpen, Call, Request, AddUser, SetToken, SetQuota, Claim, AddOwner, RemoveOwner, Upload, Delete}
+use Rattle.index_rules.proofs.Words.{BanFile, Yank, Unyank, Relinquish, Prohibit, Allow, OpenCase, RecordAttempt, Transfer, CloseCase}
+use Rattle.index_rules.proofs.Words.{AnswerCase, Bytes, same, name_key, of_both, Accept, is_held, is_prohibited, History, Entry, begins}
+use Rattle.index_rules.proofs.Words.{more, is_read_as, user_after, bearer_after, State, Free, Held, Prohibited, state_after, shown_after}
+use Rattle.index_rules.proofs.Words.{quota_after, uploads_after, greatest, is_held_now, is_given_after, owns_after, reason_after}
+use Rattle.index_rules.proofs.Words.{is_undeleted_by, UserExists, UserRecord, read_user, read_token, or_empty, first_quota, with_token}
+use Rattle.index_rules.proofs.Words.{Case, case_after, candidate_after, first_upload_after, is_undeleted_after, is_banned_after}
+use Rattle.index_rules.proofs.Words.{requires_after, last_body_after, last_body_by, name_after, record_of_state, project_after}
+use Rattle.index_rules.proofs.Words.{record_of_case, case_record_after, file_of_upload, IsLegal, verdict_after, facts_after, caller_after}
+use Rattle.index_rules.proofs.Words.{is_kept, may_move_owners, has_right, WasAllowed, HasOwnersUpload, ServesOwnersUploads, read_file}
+use Rattle.index_rules.specs.Verdict.{is_of_office, closes_own_case}
 use Rattle.index_rules.proofs.MoveLemmas.{owners_kept}
 use Rattle.index_rules.proofs.ServeLemmas.{is_read, still}
-use Rattle.index_rules.specs.declared.answer.Refusal.TheVariants.{UserExists}
-use Rattle.index_rules.specs.declared.records.UserRecord.{UserRecord}
-use Rattle.index_rules.specs.Users.{read_user}
-use Rattle.index_rules.specs.Texts.{read_token}
-use Rattle.index_rules.specs.Effect.{or_empty}
-use Rattle.index_rules.specs.Projects.{first_quota}
-use Rattle.index_rules.specs.PastUsers.{with_token}
-use Rattle.index_rules.specs.PastCases.{Case, case_after, candidate_after}
-use Rattle.index_rules.specs.PastFiles.{first_upload_after, is_undeleted_after, is_banned_after, requires_after, last_body_after}
-use Rattle.index_rules.specs.PastFiles.{last_body_by}
-use Rattle.index_rules.specs.StandsFor.{name_after, record_of_state, project_after, record_of_case, case_record_after, file_of_upload}
-use Rattle.index_rules.specs.Legal.{IsLegal, verdict_after, facts_after, caller_after}
-use Rattle.index_rules.specs.Laws.{is_kept, may_move_owners}
-use Rattle.index_rules.specs.Rights.{is_office_after, is_prohibited_now, has_right, is_claim_of, MakeSame, WasAllowed, WereAllowed}
-use Rattle.index_rules.specs.Rights.{StaysAsItIs, takes_away, IsUploadOfBody, HasOwnersUpload, ServesOwnersUploads}
+use Rattle.index_rules.specs.Rights.{is_office_after, is_prohibited_now, is_claim_of, MakeSame, WereAllowed}
+use Rattle.index_rules.specs.Rights.{StaysAsItIs, takes_away, IsUploadOfBody}
 use Rattle.index_rules.proofs.Accepted.{accepted, and_not}
 use Rattle.index_rules.proofs.OwnerLists.{same-is}
 use Rattle.index_rules.proofs.AloneWords.{state_left, shown_left, quota_left, uploads_left, given_left, yanked_left, known_left}
 use Rattle.index_rules.proofs.AloneWords.{undeleted_left, banned_left, requires_left, case_left, other_file}
-use Rattle.index_rules.specs.Requests.{read_file}
 
 -- ---- what is read
 

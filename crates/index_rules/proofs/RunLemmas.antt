@@ -1,12 +1,8 @@
 -- Calls in a row, and one more.
-use Rattle.std.proofs.Common.{◌≡◌, ◌∙◌, ℕ, List, [], ◌∷◌, ◌++◌, inl, inr, Contains, ap, subst}
+use Rattle.index_rules.proofs.Words.{◌≡◌, ◌∙◌, ℕ, List, [], ◌∷◌, ◌++◌, inl, inr, ap, subst, HasFailed, FailsAtMostOnce, Call, Answer}
+use Rattle.index_rules.proofs.Words.{Tables, verdict_now, Answers, Runs, tables_after}
+use Rattle.std.proofs.Common.{Contains}
 use Rattle.std.proofs.lemmas.List.Elements.{Contains-push_cases}
-use Rattle.index_io.specs.Counts.{HasFailed, FailsAtMostOnce}
-use Rattle.index_rules.specs.declared.call.Call.{Call}
-use Rattle.index_rules.specs.declared.answer.Answer.{Answer}
-use Rattle.index_rules.specs.Tables.{Tables}
-use Rattle.index_rules.specs.Verdict.{verdict_now}
-use Rattle.index_rules.specs.Runs.{Answers, Runs, tables_after}
 use Rattle.index_rules.proofs.Counts.{NotFewer, HasFailed-before, HasFailed-after}
 
 pub Runs-push : (T : Tables) (calls : List Call) (answers : List Answer) (T' : Tables) (call : Call) (answer : Answer) (T'' : Tables)

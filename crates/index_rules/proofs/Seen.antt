@@ -1,19 +1,13 @@
 -- What was seen is what the tables say, if no two users bear one digest.
-use Rattle.std.proofs.Common.{◌≡◌, true, not, ◌&&◌, ◌||◌, refl, sym, ap, ◌∙◌, subst, List, Option, Some, None, option_map, option_and_then}
-use Rattle.std.specs.List.{list_any, list_all}
-use Rattle.std.specs.FinMap.{get, entries, keys}
-use Rattle.std.proofs.lemmas.Bool.{false≢true}
-use Rattle.index_rules.specs.declared.call.Call.{Call}
+use Rattle.index_rules.proofs.Words.{◌≡◌, true, not, ◌&&◌, ◌||◌, refl, sym, ap, ◌∙◌, subst, List, Option, Some, None, option_map}
+use Rattle.index_rules.proofs.Words.{option_and_then, list_any, list_all, get, entries, keys, false≢true, Call, UserRecord, Bytes, same}
+use Rattle.index_rules.proofs.Words.{Tables, user_key, token_key, name_key, keys_of, HasOneBearer, bearer_in, caller_of, facts_in, of_both}
+use Rattle.index_rules.proofs.Words.{owns_in, owns_alone_in, verdict_now, verdict_on, effect, tables_with_call}
 use Rattle.index_rules.specs.declared.keys.Keys.{Keys}
-use Rattle.index_rules.specs.declared.records.UserRecord.{UserRecord}
 use Rattle.index_rules.specs.declared.view.View.{View}
-use Rattle.index_rules.specs.Maps.{Bytes, same}
-use Rattle.index_rules.specs.Tables.{Tables}
-use Rattle.index_rules.specs.Requests.{user_key, token_key, name_key, keys_of}
-use Rattle.index_rules.specs.Facts.{Sees, IsBearer, IsBearerAs, HasOneBearer, bearer_in, caller_of, facts_seen, facts_in, is_one_of}
-use Rattle.index_rules.specs.Facts.{is_only_one_of, of_both, owners_of_name, owns_in, owns_alone_in}
-use Rattle.index_rules.specs.Verdict.{verdict_now, verdict_on}
-use Rattle.index_rules.specs.Effect.{effect, means, tables_with_call}
+use Rattle.index_rules.specs.Facts.{Sees, IsBearer, IsBearerAs, facts_seen, is_one_of}
+use Rattle.index_rules.specs.Facts.{is_only_one_of, owners_of_name}
+use Rattle.index_rules.specs.Effect.{means}
 use Rattle.index_rules.proofs.OwnerLists.{list_any-owners_in, same-is}
 use Rattle.index_rules.proofs.KeyLemmas.{same_truth}
 use Rattle.index_rules.proofs.EntryLemmas.{get-found, get-missed, find-passes, list_all-at, list_all-from, each_owner, each_pair}

@@ -1,18 +1,9 @@
 -- What is served of a file is an upload of it, and so bound.
-use Rattle.std.proofs.Common.{◌≡◌, ◌⊎◌, ℕ, Bool, true, false, cond, inl, inr, sym, ap, Option, Some, None, length, refl, subst}
-use Rattle.std.proofs.lemmas.Bool.{true≢false}
-use Rattle.index_digest.specs.Digest.{sha256}
-use Rattle.index_names.specs.FileName.{project_of}
-use Rattle.index_names.specs.Project.{read_name}
-use Rattle.index_rules.specs.declared.call.Request.{Request}
-use Rattle.index_rules.specs.declared.call.Request.TheVariants.{Upload, Delete, BanFile, Prohibit}
-use Rattle.index_rules.specs.Maps.{Bytes}
-use Rattle.index_rules.specs.Requests.{read_file}
-use Rattle.index_rules.specs.History.{History, begins, more, is_read_as}
-use Rattle.index_rules.specs.PastFiles.{is_undeleted_after, is_undeleted_by, last_body_after, last_body_by}
-use Rattle.index_rules.specs.StandsFor.{body_after}
-use Rattle.index_rules.specs.Legal.{IsLegal}
-use Rattle.index_rules.specs.Laws.{IsUploadOf, HasUpload, IsFrontOf, ServesBound, ServesUploads}
+use Rattle.index_rules.proofs.Words.{◌≡◌, ◌⊎◌, ℕ, Bool, true, false, cond, inl, inr, sym, ap, Option, Some, None, length, refl, subst}
+use Rattle.index_rules.proofs.Words.{true≢false, sha256, project_of, read_name, Request, Upload, Delete, BanFile, Prohibit, Bytes}
+use Rattle.index_rules.proofs.Words.{read_file, History, begins, more, is_read_as, is_undeleted_after, is_undeleted_by, last_body_after}
+use Rattle.index_rules.proofs.Words.{last_body_by, body_after, IsLegal, IsUploadOf, HasUpload}
+use Rattle.index_rules.specs.Laws.{IsFrontOf, ServesBound, ServesUploads}
 use Rattle.index_rules.proofs.OwnerLists.{same-is}
 use Rattle.index_rules.proofs.BindLemmas.{binds_files}
 

@@ -1,16 +1,7 @@
 -- Sound tables stay sound if a file is banned.
-use Rattle.std.proofs.Common.{◌≡◌, true, false, refl, sym, ap, ◌∙◌, subst, Option, Some, None, is_some}
-use Rattle.std.specs.FinMap.{get, insert, remove, same_map}
-use Rattle.std.proofs.lemmas.Cmp.{nat_list_cmp_total}
-use Rattle.std.proofs.lemmas.Map.Lookups.{exact_bytes}
-use Rattle.index_names.specs.FileName.{project_of}
-use Rattle.index_rules.specs.declared.records.FileRecord.{FileRecord}
-use Rattle.index_rules.specs.Projects.{Project}
-use Rattle.index_rules.specs.Maps.{Bytes}
-use Rattle.index_rules.specs.Tables.{Tables}
-use Rattle.index_rules.specs.Verdict.{held_project, is_undeleted}
-use Rattle.index_rules.specs.Effect.{without_file, as_deleted, with_project}
-use Rattle.index_rules.specs.Sound.{IsSound}
+use Rattle.index_rules.proofs.Words.{◌≡◌, true, false, refl, sym, ap, ◌∙◌, subst, Option, Some, None, is_some, get, insert, remove}
+use Rattle.index_rules.proofs.Words.{same_map, nat_list_cmp_total, exact_bytes, project_of, FileRecord, Project, Bytes, Tables}
+use Rattle.index_rules.proofs.Words.{held_project, is_undeleted, without_file, as_deleted, with_project, IsSound}
 use Rattle.index_rules.proofs.PutLemmas.{each_put, each_without, get-put_here}
 use Rattle.index_rules.proofs.SoundDeletes.{IsSound-delete}
 use Rattle.index_rules.proofs.SoundEnds.{nothing_there}

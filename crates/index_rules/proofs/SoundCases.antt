@@ -1,12 +1,6 @@
 -- Sound tables stay sound if a case is opened or ends, or a held name is transferred.
-use Rattle.std.proofs.Common.{◌≡◌, true, inl, inr, sym, ap, ◌∙◌, is_some}
-use Rattle.std.specs.FinMap.{get, insert, remove, contains_key}
-use Rattle.std.proofs.lemmas.Bool.{false≢true}
-use Rattle.index_rules.specs.declared.records.CaseRecord.{CaseRecord}
-use Rattle.index_rules.specs.Maps.{Bytes, Map}
-use Rattle.index_rules.specs.Tables.{Tables}
-use Rattle.index_rules.specs.Verdict.{is_held}
-use Rattle.index_rules.specs.Sound.{IsSound}
+use Rattle.index_rules.proofs.Words.{◌≡◌, true, inl, inr, sym, ap, ◌∙◌, is_some, get, insert, remove, contains_key, false≢true, CaseRecord}
+use Rattle.index_rules.proofs.Words.{Bytes, Map, Tables, is_held, IsSound}
 use Rattle.index_rules.proofs.KeyLemmas.{cases_same}
 use Rattle.index_rules.proofs.PutLemmas.{each_put, each_without}
 use Rattle.index_rules.proofs.SoundNames.{given, given_owner, given_other}

@@ -1,17 +1,10 @@
 -- Sound tables stay sound if an undeleted file is deleted.
-use Rattle.std.proofs.Common.{◌≡◌, ◌+◌, ◌-◌, ◌≤◌, true, false, cond, refl, sym, ap, ◌∙◌, subst, Some, is_some, arith}
-use Rattle.std.specs.FinMap.{get, insert, remove}
-use Rattle.std.proofs.lemmas.Bool.{false≢true}
-use Rattle.index_names.specs.FileName.{project_of}
+use Rattle.index_rules.proofs.Words.{◌≡◌, ◌+◌, ◌≤◌, true, false, cond, refl, sym, ap, ◌∙◌, subst, Some, is_some, arith, get, insert, remove}
+use Rattle.index_rules.proofs.Words.{false≢true, project_of, Project, FileRecord, Bytes, same, Tables, owns_in, is_banned_in, held_project}
+use Rattle.index_rules.proofs.Words.{is_held, is_undeleted, without_file, as_deleted, IsSound, IsRecordOf, IsBodyOf, charge_in}
+use Rattle.index_rules.proofs.Words.{undeleted_count_in}
+use Rattle.std.proofs.Common.{◌-◌}
 use Rattle.index_rules.specs.declared.records.NameRecord.TheVariants.{Held}
-use Rattle.index_rules.specs.Projects.{Project}
-use Rattle.index_rules.specs.declared.records.FileRecord.{FileRecord}
-use Rattle.index_rules.specs.Maps.{Bytes, same}
-use Rattle.index_rules.specs.Tables.{Tables}
-use Rattle.index_rules.specs.Facts.{owns_in, is_banned_in}
-use Rattle.index_rules.specs.Verdict.{held_project, is_held, is_undeleted}
-use Rattle.index_rules.specs.Effect.{without_file, as_deleted}
-use Rattle.index_rules.specs.Sound.{IsSound, IsRecordOf, IsBodyOf, charge_in, undeleted_count_in}
 use Rattle.index_rules.proofs.KeyLemmas.{same-refl}
 use Rattle.index_rules.proofs.FileTotals.{total-delete}
 use Rattle.index_rules.proofs.PutLemmas.{each_put, each_without, get-put_here, get-put_other}

@@ -1,22 +1,10 @@
 -- Sound tables stay sound if a name ends with its owners, files and yanks.
-use Rattle.std.proofs.Common.{◌≡◌, Bool, true, false, cond, not, ◌&&◌, inl, inr, refl, sym, ap, ◌∙◌, subst, Option, Some, None, is_some}
-use Rattle.std.proofs.Common.{option_map}
-use Rattle.std.specs.Option.{option_map_or}
-use Rattle.std.specs.FinMap.{get, insert, remove, retain_keys, same_map}
-use Rattle.std.proofs.Math.Bool.{and-true}
-use Rattle.std.proofs.lemmas.Bool.{true≢false, false≢true}
-use Rattle.std.proofs.lemmas.Cmp.{nat_list_cmp_total}
-use Rattle.std.proofs.lemmas.Map.Lookups.{exact_bytes}
-use Rattle.index_rules.specs.declared.records.NameRecord.{NameRecord}
+use Rattle.index_rules.proofs.Words.{◌≡◌, Bool, true, false, cond, not, ◌&&◌, inl, inr, refl, sym, ap, ◌∙◌, subst, Option, Some, None}
+use Rattle.index_rules.proofs.Words.{is_some, option_map, option_map_or, get, insert, remove, retain_keys, same_map, and-true, true≢false}
+use Rattle.index_rules.proofs.Words.{false≢true, nat_list_cmp_total, exact_bytes, NameRecord, Project, FileRecord, Bytes, Map, PairMap}
+use Rattle.index_rules.proofs.Words.{same, change_values, Tables, is_banned_in, held_project, is_held, is_undeleted, as_deleted}
+use Rattle.index_rules.proofs.Words.{as_deleted_of, is_file_of, without_name, IsSound, IsRecordOf, IsBodyOf, undeleted_count_in}
 use Rattle.index_rules.specs.declared.records.NameRecord.TheVariants.{Prohibited}
-use Rattle.index_rules.specs.Projects.{Project}
-use Rattle.index_rules.specs.declared.records.FileRecord.{FileRecord}
-use Rattle.index_rules.specs.Maps.{Bytes, Map, PairMap, same, change_values}
-use Rattle.index_rules.specs.Tables.{Tables}
-use Rattle.index_rules.specs.Facts.{is_banned_in}
-use Rattle.index_rules.specs.Verdict.{held_project, is_held, is_undeleted}
-use Rattle.index_rules.specs.Effect.{as_deleted, as_deleted_of, is_file_of, without_name}
-use Rattle.index_rules.specs.Sound.{IsSound, IsRecordOf, IsBodyOf, undeleted_count_in}
 use Rattle.index_rules.proofs.KeyLemmas.{cases_same, get-kept, get-change_values, get-without_name, get-without_name_other}
 use Rattle.index_rules.proofs.PutLemmas.{other-sym, get-put_here, get-put_other, get-without_here, get-without_other, each_changed}
 use Rattle.index_rules.proofs.FileTotals.{total-delete_all, none_undeleted}

@@ -1,38 +1,20 @@
 -- Sound tables stay sound: after an accepted call, after any answer, after calls in a row.
-use Rattle.std.proofs.Common.{◌≡◌, ℕ, ◌+◌, ◌≤◌, true, false, cond, not, ◌&&◌, refl, sym, ap, ◌∙◌, subst, List, [], ◌∷◌, Option, Some, None}
-use Rattle.std.proofs.Common.{is_some, is_none, option_map, option_and_then, unwrap_or, length, nat_lt, arith}
-use Rattle.std.specs.Option.{option_map_or}
-use Rattle.std.specs.FinMap.{get, remove}
-use Rattle.std.proofs.lemmas.Bool.{true≢false, false≢true, not-false, ltb-false}
-use Rattle.index_names.specs.Project.{read_name}
-use Rattle.index_names.specs.Release.{read_release}
-use Rattle.index_names.specs.FileName.{Spelled, read_file_name, project_of, release_of}
-use Rattle.index_digest.specs.Digest.{sha256, read_digest}
-use Rattle.index_rules.specs.declared.answer.Refusal.TheVariants.{BadDigest, BadFileName, BadName, BadUser, DigestMismatch, FileBanned}
-use Rattle.index_rules.specs.declared.answer.Refusal.TheVariants.{FilesRemain, LastOwner, NameHeld, NoFile, NoProject, OverQuota}
-use Rattle.index_rules.specs.declared.answer.Refusal.TheVariants.{QuotaBelowCharge, TokenTaken}
-use Rattle.index_rules.specs.declared.answer.Answer.{Answer}
-use Rattle.index_rules.specs.declared.answer.Answer.TheVariants.{Accepted, Already, Refused, Fault}
-use Rattle.index_rules.specs.declared.call.Call.{Call}
-use Rattle.index_rules.specs.declared.call.Request.{Request}
-use Rattle.index_rules.specs.declared.call.Request.TheVariants.{AddUser, SetToken, SetQuota, Claim, AddOwner, RemoveOwner, Upload, Delete}
-use Rattle.index_rules.specs.declared.call.Request.TheVariants.{BanFile, Yank, Unyank, Relinquish, Prohibit, Allow, OpenCase, RecordAttempt}
-use Rattle.index_rules.specs.declared.call.Request.TheVariants.{Transfer, CloseCase, AnswerCase}
-use Rattle.index_rules.specs.declared.records.FileRecord.{FileRecord}
-use Rattle.index_rules.specs.declared.records.NameRecord.{NameRecord}
+use Rattle.index_rules.proofs.Words.{◌≡◌, ℕ, ◌+◌, ◌≤◌, true, false, cond, not, ◌&&◌, refl, sym, ap, ◌∙◌, subst, List, [], ◌∷◌, Option, Some}
+use Rattle.index_rules.proofs.Words.{None, is_some, is_none, option_map, option_and_then, unwrap_or, length, arith, option_map_or, get}
+use Rattle.index_rules.proofs.Words.{remove, true≢false, false≢true, not-false, ltb-false, read_name, read_release, Spelled, read_file_name}
+use Rattle.index_rules.proofs.Words.{project_of, release_of, sha256, read_digest, BadDigest, BadFileName, BadName, BadUser, DigestMismatch}
+use Rattle.index_rules.proofs.Words.{FileBanned, FilesRemain, LastOwner, NameHeld, NoFile, NoProject, OverQuota, QuotaBelowCharge}
+use Rattle.index_rules.proofs.Words.{TokenTaken, Answer, Accepted, Already, Refused, Fault, Call, Request, AddUser, SetToken, SetQuota}
+use Rattle.index_rules.proofs.Words.{Claim, AddOwner, RemoveOwner, Upload, Delete, BanFile, Yank, Unyank, Relinquish, Prohibit, Allow}
+use Rattle.index_rules.proofs.Words.{OpenCase, RecordAttempt, Transfer, CloseCase, AnswerCase, FileRecord, NameRecord, Project, first_quota}
+use Rattle.index_rules.proofs.Words.{Bytes, same, read_user, read_token, Tables, read_file, Facts, facts_in, of_both, owns_in}
+use Rattle.index_rules.proofs.Words.{owns_alone_in, is_banned_in, Accept, verdict_now, exceeds_quota, is_prohibited, held_project, is_held}
+use Rattle.index_rules.proofs.Words.{is_undeleted, or_empty, no_file, no_project, the_file, the_user, without_file, tables_with_call}
+use Rattle.index_rules.proofs.Words.{Answers, Runs, tables_after, IsSound, undeleted_count_in}
+use Rattle.std.proofs.Common.{nat_lt}
 use Rattle.index_rules.specs.declared.records.NameRecord.TheVariants.{Held, Prohibited}
-use Rattle.index_rules.specs.Projects.{Project, first_quota}
-use Rattle.index_rules.specs.Maps.{Bytes, same}
-use Rattle.index_rules.specs.Users.{read_user}
-use Rattle.index_rules.specs.Texts.{read_token}
-use Rattle.index_rules.specs.Tables.{Tables}
-use Rattle.index_rules.specs.Requests.{read_file}
-use Rattle.index_rules.specs.Facts.{Facts, facts_in, of_both, owns_in, owns_alone_in, is_banned_in}
-use Rattle.index_rules.specs.Verdict.{Accept, verdict_now, exceeds_quota, has_files, is_prohibited, held_project, is_held, is_undeleted}
-use Rattle.index_rules.specs.Effect.{or_empty, no_file, no_project, the_file, the_user, the_project, the_caller, without_file}
-use Rattle.index_rules.specs.Effect.{tables_with_call}
-use Rattle.index_rules.specs.Runs.{Answers, Runs, tables_after}
-use Rattle.index_rules.specs.Sound.{IsSound, undeleted_count_in}
+use Rattle.index_rules.specs.Verdict.{has_files}
+use Rattle.index_rules.specs.Effect.{the_project, the_caller}
 use Rattle.index_rules.proofs.OwnerLists.{same-is}
 use Rattle.index_rules.proofs.PastReading.{read_itself}
 use Rattle.index_rules.proofs.PutLemmas.{without_found}

@@ -1,16 +1,9 @@
 -- Sound tables stay sound if a held name's quota changes or a free name is claimed.
-use Rattle.std.proofs.Common.{◌≡◌, ◌≤◌, true, false, cond, not, ◌&&◌, inl, inr, refl, sym, ap, ◌∙◌, subst, Some, is_some, arith}
-use Rattle.std.specs.FinMap.{get, insert, contains_key}
-use Rattle.std.proofs.lemmas.Bool.{false≢true, cases_Bool, and_parts}
+use Rattle.index_rules.proofs.Words.{◌≡◌, ◌≤◌, true, false, cond, not, ◌&&◌, inl, inr, refl, sym, ap, ◌∙◌, subst, Some, is_some, arith, get}
+use Rattle.index_rules.proofs.Words.{insert, contains_key, false≢true, cases_Bool, and_parts, Project, FileRecord, Bytes, Pairs, same}
+use Rattle.index_rules.proofs.Words.{Tables, owns_in, yank_in, held_project, is_held, without_name, IsSound, is_undeleted_of, charged_size}
+use Rattle.index_rules.proofs.Words.{charge_in, undeleted_count_in}
 use Rattle.index_rules.specs.declared.records.NameRecord.TheVariants.{Held}
-use Rattle.index_rules.specs.Projects.{Project}
-use Rattle.index_rules.specs.declared.records.FileRecord.{FileRecord}
-use Rattle.index_rules.specs.Maps.{Bytes, Pairs, same}
-use Rattle.index_rules.specs.Tables.{Tables}
-use Rattle.index_rules.specs.Facts.{owns_in, yank_in}
-use Rattle.index_rules.specs.Verdict.{held_project, is_held}
-use Rattle.index_rules.specs.Effect.{without_name}
-use Rattle.index_rules.specs.Sound.{IsSound, is_undeleted_of, charged_size, charge_in, undeleted_count_in}
 use Rattle.index_rules.proofs.OwnerLists.{same-is}
 use Rattle.index_rules.proofs.KeyLemmas.{same-refl, has-put, has-cleared, get-without_name_other}
 use Rattle.index_rules.proofs.Totals.{total-zero}

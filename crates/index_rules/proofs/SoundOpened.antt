@@ -1,12 +1,7 @@
 -- The tables of a new index are sound.
-use Rattle.std.proofs.Common.{◌≡◌, Bool, true, false, cond, sym, ap, ◌∙◌, Option, Some, None, is_some}
-use Rattle.std.specs.FinMap.{get, empty, get-empty}
-use Rattle.std.proofs.lemmas.Bool.{false≢true}
-use Rattle.index_rules.specs.declared.records.UserRecord.{UserRecord}
-use Rattle.index_rules.specs.Maps.{Bytes, same, bytes_cmp, pair_cmp}
-use Rattle.index_rules.specs.Verdict.{held_project, is_held, is_undeleted}
-use Rattle.index_rules.specs.FirstTables.{first_record, first_tables}
-use Rattle.index_rules.specs.Sound.{IsSound}
+use Rattle.index_rules.proofs.Words.{◌≡◌, Bool, true, false, cond, sym, ap, ◌∙◌, Option, Some, None, is_some, get, empty, get-empty}
+use Rattle.index_rules.proofs.Words.{false≢true, UserRecord, Bytes, same, bytes_cmp, pair_cmp, held_project, is_held, is_undeleted}
+use Rattle.index_rules.proofs.Words.{first_record, first_tables, IsSound}
 use Rattle.index_rules.proofs.OwnerLists.{same-is}
 use Rattle.index_rules.proofs.KeyLemmas.{get-put}
 

@@ -1,14 +1,8 @@
 -- Sound tables stay sound if a held name has one owner more, or one less of several.
-use Rattle.std.proofs.Common.{◌≡◌, Bool, true, false, cond, not, ◌&&◌, ◌||◌, ◌⊎◌, inl, inr, refl, sym, ap, ◌∙◌, List, [], ◌∷◌}
-use Rattle.std.specs.List.{list_any, list_all}
-use Rattle.std.specs.Ordering.{eq_by_cmp}
-use Rattle.std.specs.FinMap.{get, insert, remove, keys, contains_key-keys}
-use Rattle.std.proofs.lemmas.Bool.{true≢false, false≢true, cases_Bool, and_parts, and_from, or_parts, or_left, or_right, not-false}
-use Rattle.index_rules.specs.Maps.{Bytes, same, pair_cmp}
-use Rattle.index_rules.specs.Tables.{Tables}
-use Rattle.index_rules.specs.Facts.{owns_in, owns_alone_in}
-use Rattle.index_rules.specs.Verdict.{is_held}
-use Rattle.index_rules.specs.Sound.{IsSound}
+use Rattle.index_rules.proofs.Words.{◌≡◌, Bool, true, false, cond, not, ◌&&◌, ◌||◌, ◌⊎◌, inl, inr, refl, sym, ap, ◌∙◌, List, [], ◌∷◌}
+use Rattle.index_rules.proofs.Words.{list_any, list_all, eq_by_cmp, get, insert, remove, keys, contains_key-keys, true≢false, false≢true}
+use Rattle.index_rules.proofs.Words.{cases_Bool, and_parts, and_from, or_parts, or_left, or_right, not-false, Bytes, same, pair_cmp, Tables}
+use Rattle.index_rules.proofs.Words.{owns_in, owns_alone_in, is_held, IsSound}
 use Rattle.index_rules.proofs.OwnerLists.{same-is, same_pair}
 use Rattle.index_rules.proofs.KeyLemmas.{same-refl, cases_same, has-put, has-without}
 use Rattle.index_rules.proofs.PutLemmas.{other-sym}

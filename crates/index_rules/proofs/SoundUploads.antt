@@ -1,17 +1,9 @@
 -- Sound tables stay sound if a file that is not undeleted is uploaded within its project's quota.
-use Rattle.std.proofs.Common.{◌≡◌, ℕ, ◌+◌, ◌≤◌, true, false, cond, inl, inr, sym, ap, ◌∙◌, subst, Some, is_some, length, arith}
-use Rattle.std.specs.FinMap.{get, insert}
-use Rattle.std.proofs.lemmas.Bool.{false≢true}
+use Rattle.index_rules.proofs.Words.{◌≡◌, ℕ, ◌+◌, ◌≤◌, true, false, cond, inl, inr, sym, ap, ◌∙◌, subst, Some, is_some, length, arith, get}
+use Rattle.index_rules.proofs.Words.{insert, false≢true, Project, FileRecord, Bytes, same, sha256, Tables, owns_in, is_banned_in}
+use Rattle.index_rules.proofs.Words.{held_project, is_held, is_undeleted, with_file, IsSound, IsRecordOf, IsBodyOf, charge_in}
+use Rattle.index_rules.proofs.Words.{undeleted_count_in}
 use Rattle.index_rules.specs.declared.records.NameRecord.TheVariants.{Held}
-use Rattle.index_rules.specs.Projects.{Project}
-use Rattle.index_rules.specs.declared.records.FileRecord.{FileRecord}
-use Rattle.index_rules.specs.Maps.{Bytes, same}
-use Rattle.index_digest.specs.Digest.{sha256}
-use Rattle.index_rules.specs.Tables.{Tables}
-use Rattle.index_rules.specs.Facts.{owns_in, is_banned_in}
-use Rattle.index_rules.specs.Verdict.{held_project, is_held, is_undeleted}
-use Rattle.index_rules.specs.Effect.{with_file}
-use Rattle.index_rules.specs.Sound.{IsSound, IsRecordOf, IsBodyOf, charge_in, undeleted_count_in}
 use Rattle.index_rules.proofs.KeyLemmas.{same-refl, cases_same}
 use Rattle.index_rules.proofs.FileTotals.{total-upload}
 use Rattle.index_rules.proofs.PutLemmas.{each_put, get-put_here, get-put_other}

@@ -1,14 +1,7 @@
 -- Sound tables stay sound if a user is put whose token nobody else bears.
-use Rattle.std.proofs.Common.{◌≡◌, true, false, refl, sym, ap, ◌∙◌, Option, Some, None, is_none, option_map, option_and_then}
-use Rattle.std.specs.FinMap.{get, insert, entries}
-use Rattle.std.proofs.lemmas.Bool.{true≢false, false≢true, not-false}
-use Rattle.index_rules.specs.declared.records.UserRecord.{UserRecord}
-use Rattle.index_rules.specs.Maps.{Bytes, same}
-use Rattle.index_rules.specs.Tables.{Tables}
-use Rattle.index_rules.specs.Facts.{HasOneBearer, bearer_in}
-use Rattle.index_rules.specs.Verdict.{is_taken}
-use Rattle.index_rules.specs.Effect.{or_empty}
-use Rattle.index_rules.specs.Sound.{IsSound}
+use Rattle.index_rules.proofs.Words.{◌≡◌, true, false, refl, sym, ap, ◌∙◌, Option, Some, None, is_none, option_map, option_and_then, get}
+use Rattle.index_rules.proofs.Words.{insert, entries, true≢false, false≢true, not-false, UserRecord, Bytes, same, Tables, HasOneBearer}
+use Rattle.index_rules.proofs.Words.{bearer_in, is_taken, or_empty, IsSound}
 use Rattle.index_rules.proofs.OwnerLists.{same-is}
 use Rattle.index_rules.proofs.KeyLemmas.{same-refl}
 use Rattle.index_rules.proofs.EntryLemmas.{get-found, get-missed, find-passes}

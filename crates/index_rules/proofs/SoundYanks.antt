@@ -1,12 +1,6 @@
 -- Sound tables stay sound if a held name's release is yanked or unyanked.
-use Rattle.std.proofs.Common.{◌≡◌, Bool, true, false, cond, ◌&&◌, inl, inr, sym, ap, ◌∙◌, Option, Some, None, is_some}
-use Rattle.std.specs.FinMap.{get, insert, remove}
-use Rattle.std.proofs.lemmas.Bool.{false≢true, cases_Bool, and_parts}
-use Rattle.index_rules.specs.Maps.{Bytes, PairMap, same}
-use Rattle.index_rules.specs.Tables.{Tables}
-use Rattle.index_rules.specs.Facts.{yank_in}
-use Rattle.index_rules.specs.Verdict.{is_held}
-use Rattle.index_rules.specs.Sound.{IsSound}
+use Rattle.index_rules.proofs.Words.{◌≡◌, Bool, true, false, cond, ◌&&◌, inl, inr, sym, ap, ◌∙◌, Option, Some, None, is_some, get, insert}
+use Rattle.index_rules.proofs.Words.{remove, false≢true, cases_Bool, and_parts, Bytes, PairMap, same, Tables, yank_in, is_held, IsSound}
 use Rattle.index_rules.proofs.OwnerLists.{same-is}
 use Rattle.index_rules.proofs.KeyLemmas.{get-put_pair, get-without_pair}
 

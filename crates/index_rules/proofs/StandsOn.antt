@@ -1,31 +1,16 @@
 -- Tables that stand for a legal history are sound, and stand for the history with each call that is accepted.
-use Rattle.std.proofs.Common.{◌≡◌, false, cond, refl, sym, ap, ◌∙◌, subst, List, [], ◌∷◌, Option, Some, None, is_some, is_none, option_map}
-use Rattle.std.specs.FinMap.{get, empty, get-empty, same_map}
-use Rattle.std.proofs.lemmas.Cmp.{nat_list_cmp_total}
-use Rattle.std.proofs.lemmas.Map.Lookups.{exact_bytes}
-use Rattle.std.proofs.lemmas.Bool.{true≢false, false≢true}
-use Rattle.index_rules.specs.declared.answer.Refusal.TheVariants.{BadToken}
-use Rattle.index_rules.specs.declared.call.Call.{Call}
+use Rattle.index_rules.proofs.Words.{◌≡◌, false, cond, refl, sym, ap, ◌∙◌, subst, List, [], ◌∷◌, Option, Some, None, is_some, is_none}
+use Rattle.index_rules.proofs.Words.{option_map, get, empty, get-empty, same_map, nat_list_cmp_total, exact_bytes, true≢false, false≢true}
+use Rattle.index_rules.proofs.Words.{BadToken, Call, UserRecord, Answer, Accepted, Already, Refused, Fault, Bytes, same, bytes_cmp}
+use Rattle.index_rules.proofs.Words.{pair_cmp, Tables, HasOneBearer, bearer_in, caller_of, facts_in, Accept, held_project, verdict_now}
+use Rattle.index_rules.proofs.Words.{or_empty, tables_with_call, first_record, first_tables, Answers, Runs, tables_after, IsSound, History}
+use Rattle.index_rules.proofs.Words.{begins, more, bearer_after, State, Free, Held, Prohibited, state_after, shown_after, quota_after}
+use Rattle.index_rules.proofs.Words.{last_upload_after, charge_after, undeleted_count_after, StandsFor, record_of_state, project_after}
+use Rattle.index_rules.proofs.Words.{name_after, file_after, verdict_after, IsLegal}
 use Rattle.index_rules.specs.declared.records.NameRecord.TheVariants as name_record
-use Rattle.index_rules.specs.declared.records.UserRecord.{UserRecord}
 use Rattle.index_rules.specs.declared.view.Caller.{Caller}
-use Rattle.index_rules.specs.declared.answer.Answer.{Answer}
-use Rattle.index_rules.specs.declared.answer.Answer.TheVariants.{Accepted, Already, Refused, Fault}
-use Rattle.index_rules.specs.Maps.{Bytes, same, bytes_cmp, pair_cmp}
-use Rattle.index_rules.specs.Tables.{Tables}
-use Rattle.index_rules.specs.Facts.{HasOneBearer, bearer_in, caller_of, facts_in}
-use Rattle.index_rules.specs.Verdict.{Accept, held_project, verdict_now}
-use Rattle.index_rules.specs.Effect.{or_empty, tables_with_call}
-use Rattle.index_rules.specs.FirstTables.{first_record, first_tables}
-use Rattle.index_rules.specs.Runs.{Answers, Runs, tables_after}
-use Rattle.index_rules.specs.Sound.{IsSound}
-use Rattle.index_rules.specs.History.{History, begins, more}
-use Rattle.index_rules.specs.PastUsers.{bearer_after}
-use Rattle.index_rules.specs.PastNames.{State, Free, Held, Prohibited, state_after, shown_after, quota_after, last_upload_after}
-use Rattle.index_rules.specs.PastFiles.{charge_after, undeleted_count_after}
 use Rattle.index_rules.specs.Laws.{HasOneBearerOfEach}
-use Rattle.index_rules.specs.StandsFor.{StandsFor, record_of_state, project_after, name_after, file_after}
-use Rattle.index_rules.specs.Legal.{verdict_after, with_call, IsLegal, history_after, CarriesOn, CarriesOnAll}
+use Rattle.index_rules.specs.Legal.{with_call, history_after, CarriesOn, CarriesOnAll}
 use Rattle.index_rules.proofs.OwnerLists.{pair_total, exact_pair}
 use Rattle.index_rules.proofs.KeyLemmas.{get-put}
 use Rattle.index_rules.proofs.Accepted.{accepted}

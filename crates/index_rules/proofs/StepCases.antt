@@ -1,30 +1,14 @@
 -- The open cases after an accepted call are those of the history with it.
-use Rattle.std.proofs.Common.{◌≡◌, ℕ, Bool, true, false, cond, refl, sym, ap, ◌∙◌, [], Option, Some, None, is_some, is_none, option_map}
-use Rattle.std.proofs.Common.{option_and_then, unwrap_or}
-use Rattle.std.specs.FinMap.{get, remove}
-use Rattle.std.proofs.lemmas.Bool.{true≢false, false≢true, not-false}
-use Rattle.index_names.specs.Project.{read_name}
-use Rattle.index_names.specs.FileName.{project_of}
-use Rattle.index_retention.specs.declared.attempts.CaseKind.{CaseKind}
+use Rattle.index_rules.proofs.Words.{◌≡◌, ℕ, Bool, true, false, cond, refl, sym, ap, ◌∙◌, [], Option, Some, None, is_some, is_none}
+use Rattle.index_rules.proofs.Words.{option_map, option_and_then, unwrap_or, get, remove, true≢false, false≢true, not-false, read_name}
+use Rattle.index_rules.proofs.Words.{project_of, CaseKind, Attempt, attempt_of, tally_of, attempts_are_counted, BadFileName, BadName}
+use Rattle.index_rules.proofs.Words.{NameHeld, NoCase, Call, Request, Claim, AddOwner, RemoveOwner, Upload, Delete, Yank, Unyank}
+use Rattle.index_rules.proofs.Words.{Relinquish, Prohibit, Allow, OpenCase, RecordAttempt, Transfer, CloseCase, AnswerCase, CaseRecord}
+use Rattle.index_rules.proofs.Words.{Bytes, Tables, read_file, bearer_in, caller_of, facts_in, Accept, verdict_now, is_held, or_empty}
+use Rattle.index_rules.proofs.Words.{no_case, tables_with_call, IsSound, History, more, is_read_as, Case, case_after, with_attempt}
+use Rattle.index_rules.proofs.Words.{name_after, case_record_after, record_of_case}
 use Rattle.index_retention.specs.declared.attempts.Means.{Means}
-use Rattle.index_retention.specs.Attempts.{Attempt, attempt_of, tally_of}
-use Rattle.index_retention.proofs.TallyLemmas.{attempts_are_counted}
-use Rattle.index_rules.specs.declared.answer.Refusal.TheVariants.{BadFileName, BadName, NameHeld, NoCase}
-use Rattle.index_rules.specs.declared.call.Call.{Call}
-use Rattle.index_rules.specs.declared.call.Request.{Request}
-use Rattle.index_rules.specs.declared.call.Request.TheVariants.{Claim, AddOwner, RemoveOwner, Upload, Delete, Yank, Unyank, Relinquish}
-use Rattle.index_rules.specs.declared.call.Request.TheVariants.{Prohibit, Allow, OpenCase, RecordAttempt, Transfer, CloseCase, AnswerCase}
-use Rattle.index_rules.specs.declared.records.CaseRecord.{CaseRecord}
-use Rattle.index_rules.specs.Maps.{Bytes}
-use Rattle.index_rules.specs.Tables.{Tables}
-use Rattle.index_rules.specs.Requests.{read_file}
-use Rattle.index_rules.specs.Facts.{bearer_in, caller_of, facts_in}
-use Rattle.index_rules.specs.Verdict.{Accept, verdict_now, is_held}
-use Rattle.index_rules.specs.Effect.{or_empty, no_case, with_attempt_noted, tables_with_call}
-use Rattle.index_rules.specs.Sound.{IsSound}
-use Rattle.index_rules.specs.History.{History, more, is_read_as}
-use Rattle.index_rules.specs.PastCases.{Case, case_after, with_attempt}
-use Rattle.index_rules.specs.StandsFor.{name_after, case_record_after, record_of_case}
+use Rattle.index_rules.specs.Effect.{with_attempt_noted}
 use Rattle.index_rules.proofs.SoundLemmas.{no_project_at}
 use Rattle.index_rules.proofs.PutLemmas.{each_put, each_without, without_found}
 use Rattle.index_rules.proofs.Accepted.{accepted, and_not}

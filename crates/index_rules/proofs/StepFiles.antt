@@ -1,26 +1,12 @@
 -- The files, the bodies and the bans after an accepted call are those of the history with it.
-use Rattle.std.proofs.Common.{◌≡◌, ℕ, Bool, true, false, cond, not, refl, sym, ap, ◌∙◌, Option, Some, None, is_some, is_none, option_map}
-use Rattle.std.proofs.Common.{option_and_then, unwrap_or, length}
-use Rattle.std.specs.Option.{option_or, option_map_or}
-use Rattle.std.specs.FinMap.{get}
-use Rattle.std.proofs.lemmas.Bool.{true≢false, false≢true, not-false, and_parts, eqb-true}
-use Rattle.index_names.specs.Project.{read_name}
-use Rattle.index_names.specs.FileName.{project_of, release_of}
-use Rattle.index_digest.specs.Digest.{read_digest}
-use Rattle.index_rules.specs.declared.answer.Refusal.TheVariants.{BadDigest, BadFileName, BadName, FileNameTaken, NoFile}
-use Rattle.index_rules.specs.declared.call.Call.{Call}
-use Rattle.index_rules.specs.declared.call.Request.{Request}
-use Rattle.index_rules.specs.declared.call.Request.TheVariants.{Upload, Delete, BanFile, Prohibit}
-use Rattle.index_rules.specs.declared.records.FileRecord.{FileRecord}
-use Rattle.index_rules.specs.Maps.{Bytes, same}
-use Rattle.index_rules.specs.Tables.{Tables}
-use Rattle.index_rules.specs.Requests.{read_file}
-use Rattle.index_rules.specs.Facts.{facts_in, is_banned_in}
-use Rattle.index_rules.specs.Verdict.{Accept, verdict_now, is_other_file}
-use Rattle.index_rules.specs.Effect.{or_empty, no_file, as_deleted, as_deleted_of, is_file_of, tables_with_call}
-use Rattle.index_rules.specs.History.{History, more, is_read_as}
-use Rattle.index_rules.specs.PastFiles.{first_upload_after, is_undeleted_after, is_banned_after, requires_after, last_body_after}
-use Rattle.index_rules.specs.StandsFor.{file_of_upload, file_after, body_after}
+use Rattle.index_rules.proofs.Words.{◌≡◌, ℕ, Bool, true, false, cond, not, refl, sym, ap, ◌∙◌, Option, Some, None, is_some, is_none}
+use Rattle.index_rules.proofs.Words.{option_map, option_and_then, unwrap_or, length, option_or, option_map_or, get, true≢false, false≢true}
+use Rattle.index_rules.proofs.Words.{not-false, and_parts, eqb-true, read_name, project_of, release_of, read_digest, BadDigest, BadFileName}
+use Rattle.index_rules.proofs.Words.{BadName, FileNameTaken, NoFile, Call, Request, Upload, Delete, BanFile, Prohibit, FileRecord, Bytes}
+use Rattle.index_rules.proofs.Words.{same, Tables, read_file, facts_in, is_banned_in, Accept, verdict_now, is_other_file, or_empty, no_file}
+use Rattle.index_rules.proofs.Words.{as_deleted, as_deleted_of, is_file_of, tables_with_call, History, more, is_read_as, first_upload_after}
+use Rattle.index_rules.proofs.Words.{is_undeleted_after, is_banned_after, requires_after, last_body_after, file_of_upload, file_after}
+use Rattle.index_rules.proofs.Words.{body_after}
 use Rattle.index_rules.proofs.OwnerLists.{same-is}
 use Rattle.index_rules.proofs.KeyLemmas.{get-without, get-kept, get-change_values}
 use Rattle.index_rules.proofs.PutLemmas.{each_put}

@@ -1,28 +1,15 @@
 -- The names after an accepted call are those of the history with it, once their numbers are.
-use Rattle.std.proofs.Common.{◌≡◌, ℕ, Bool, true, false, cond, not, refl, sym, ap, ◌∙◌, subst, Option, Some, None, is_some, is_none}
-use Rattle.std.proofs.Common.{option_map, option_and_then, unwrap_or, length, max, [], ◌∷◌}
-use Rattle.std.specs.Option.{option_map_or}
-use Rattle.std.specs.FinMap.{get, insert, remove}
-use Rattle.std.proofs.lemmas.Bool.{false≢true, not-false}
-use Rattle.index_names.specs.Project.{read_name}
-use Rattle.index_names.specs.FileName.{project_of}
-use Rattle.index_rules.specs.declared.answer.Refusal.TheVariants.{BadFileName, BadName, NoProject}
-use Rattle.index_rules.specs.declared.call.Call.{Call}
-use Rattle.index_rules.specs.declared.call.Request.{Request}
-use Rattle.index_rules.specs.declared.call.Request.TheVariants.{SetQuota, Claim, Upload, Delete, BanFile, Relinquish, Prohibit, Allow}
-use Rattle.index_rules.specs.declared.records.NameRecord.{NameRecord}
+use Rattle.index_rules.proofs.Words.{◌≡◌, ℕ, Bool, true, false, cond, not, refl, sym, ap, ◌∙◌, subst, Option, Some, None, is_some, is_none}
+use Rattle.index_rules.proofs.Words.{option_map, option_and_then, unwrap_or, length, [], ◌∷◌, option_map_or, get, insert, remove}
+use Rattle.index_rules.proofs.Words.{false≢true, not-false, read_name, project_of, BadFileName, BadName, NoProject, Call, Request, SetQuota}
+use Rattle.index_rules.proofs.Words.{Claim, Upload, Delete, BanFile, Relinquish, Prohibit, Allow, NameRecord, Project, first_quota, Bytes}
+use Rattle.index_rules.proofs.Words.{Tables, read_file, facts_in, Accept, verdict_now, held_project, is_held, is_undeleted, or_empty}
+use Rattle.index_rules.proofs.Words.{no_project, the_file, with_file, without_file, with_project, tables_with_call, History, more}
+use Rattle.index_rules.proofs.Words.{is_read_as, State, Free, Held, Prohibited, state_after, shown_after, quota_after, uploads_after}
+use Rattle.index_rules.proofs.Words.{greatest, last_upload_after, record_of_state, project_after, name_after}
+use Rattle.std.proofs.Common.{max}
 use Rattle.index_rules.specs.declared.records.NameRecord.TheVariants as name_record
-use Rattle.index_rules.specs.Projects.{Project, first_quota}
-use Rattle.index_rules.specs.Maps.{Bytes}
-use Rattle.index_rules.specs.Tables.{Tables}
-use Rattle.index_rules.specs.Requests.{read_file}
-use Rattle.index_rules.specs.Facts.{facts_in}
-use Rattle.index_rules.specs.Verdict.{Accept, verdict_now, held_project, is_held, is_undeleted}
-use Rattle.index_rules.specs.Effect.{or_empty, no_project, the_file, later, with_file, without_file, with_project, tables_with_call}
-use Rattle.index_rules.specs.History.{History, more, is_read_as}
-use Rattle.index_rules.specs.PastNames.{State, Free, Held, Prohibited, state_after, shown_after, quota_after, uploads_after, greatest}
-use Rattle.index_rules.specs.PastNames.{last_upload_after}
-use Rattle.index_rules.specs.StandsFor.{record_of_state, project_after, name_after}
+use Rattle.index_rules.specs.Effect.{later}
 use Rattle.index_rules.proofs.PutLemmas.{each_put, each_without}
 use Rattle.index_rules.proofs.Accepted.{accepted}
 use Rattle.index_rules.proofs.PastReading.{read_key, read_itself, at_key, at_other}

@@ -1,26 +1,12 @@
 -- The owners and the yanks after an accepted call are those of the history with it.
-use Rattle.std.proofs.Common.{◌≡◌, ℕ, Bool, true, false, cond, not, ◌&&◌, ◌⊎◌, inl, inr, refl, sym, ap, ◌∙◌, Option, Some, None, is_none}
-use Rattle.std.proofs.Common.{option_map, option_and_then, unwrap_or}
-use Rattle.std.specs.FinMap.{get}
-use Rattle.std.proofs.lemmas.Bool.{true≢false, not-false}
-use Rattle.index_names.specs.Project.{read_name}
-use Rattle.index_names.specs.Release.{read_release}
-use Rattle.index_rules.specs.declared.answer.Refusal.TheVariants.{BadName, BadRelease, BadUser, NoCase, NoProject}
-use Rattle.index_rules.specs.declared.call.Call.{Call}
-use Rattle.index_rules.specs.declared.call.Request.{Request}
-use Rattle.index_rules.specs.declared.call.Request.TheVariants.{Claim, AddOwner, RemoveOwner, Yank, Unyank, Relinquish, Prohibit, Allow}
-use Rattle.index_rules.specs.declared.call.Request.TheVariants.{Transfer}
-use Rattle.index_rules.specs.Maps.{Bytes, same}
-use Rattle.index_rules.specs.Users.{read_user}
-use Rattle.index_rules.specs.Tables.{Tables}
-use Rattle.index_rules.specs.Facts.{bearer_in, caller_of, facts_in, owns_in, yank_in}
-use Rattle.index_rules.specs.Verdict.{Accept, verdict_now, is_held}
-use Rattle.index_rules.specs.Effect.{or_empty, no_case, without_name, tables_with_call}
-use Rattle.index_rules.specs.History.{History, more, is_read_as}
-use Rattle.index_rules.specs.PastNames.{State, Free, Held, Prohibited, state_after, is_held_now, is_given_after, owns_after, reason_after}
-use Rattle.index_rules.specs.PastNames.{yank_after}
-use Rattle.index_rules.specs.PastCases.{Case, case_after, candidate_after}
-use Rattle.index_rules.specs.StandsFor.{name_after, case_record_after, record_of_case}
+use Rattle.index_rules.proofs.Words.{◌≡◌, ℕ, Bool, true, false, cond, not, ◌&&◌, ◌⊎◌, inl, inr, refl, sym, ap, ◌∙◌, Option, Some, None}
+use Rattle.index_rules.proofs.Words.{is_none, option_map, option_and_then, unwrap_or, get, true≢false, not-false, read_name, read_release}
+use Rattle.index_rules.proofs.Words.{BadName, BadRelease, BadUser, NoCase, NoProject, Call, Request, Claim, AddOwner, RemoveOwner, Yank}
+use Rattle.index_rules.proofs.Words.{Unyank, Relinquish, Prohibit, Allow, Transfer, Bytes, same, read_user, Tables, bearer_in, caller_of}
+use Rattle.index_rules.proofs.Words.{facts_in, owns_in, yank_in, Accept, verdict_now, is_held, or_empty, no_case, without_name}
+use Rattle.index_rules.proofs.Words.{tables_with_call, History, more, is_read_as, State, Free, Held, Prohibited, state_after, is_held_now}
+use Rattle.index_rules.proofs.Words.{is_given_after, owns_after, reason_after, yank_after, Case, case_after, candidate_after, name_after}
+use Rattle.index_rules.proofs.Words.{case_record_after, record_of_case}
 use Rattle.index_rules.proofs.OwnerLists.{same-is}
 use Rattle.index_rules.proofs.KeyLemmas.{same-sym, same_truth, cases_same, has-put, has-without, has-cleared, get-put_pair}
 use Rattle.index_rules.proofs.KeyLemmas.{get-without_pair, get-without_name}

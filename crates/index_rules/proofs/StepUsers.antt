@@ -1,22 +1,8 @@
 -- The users after an accepted call are those of the history with it.
-use Rattle.std.proofs.Common.{◌≡◌, ℕ, Bool, false, cond, refl, sym, ap, ◌∙◌, Option, Some, None, is_none, option_map, option_and_then}
-use Rattle.std.proofs.Common.{unwrap_or}
-use Rattle.std.specs.FinMap.{get}
-use Rattle.std.proofs.lemmas.Bool.{true≢false}
-use Rattle.index_rules.specs.declared.answer.Refusal.TheVariants.{BadUser, NoUser}
-use Rattle.index_rules.specs.declared.call.Call.{Call}
-use Rattle.index_rules.specs.declared.call.Request.{Request}
-use Rattle.index_rules.specs.declared.call.Request.TheVariants.{AddUser, SetToken}
-use Rattle.index_rules.specs.declared.records.UserRecord.{UserRecord}
-use Rattle.index_rules.specs.Maps.{Bytes, same}
-use Rattle.index_rules.specs.Users.{read_user}
-use Rattle.index_rules.specs.Texts.{read_token}
-use Rattle.index_rules.specs.Tables.{Tables}
-use Rattle.index_rules.specs.Facts.{facts_in}
-use Rattle.index_rules.specs.Verdict.{Accept, verdict_now}
-use Rattle.index_rules.specs.Effect.{or_empty, no_user, tables_with_call}
-use Rattle.index_rules.specs.History.{History, more}
-use Rattle.index_rules.specs.PastUsers.{user_after, with_token}
+use Rattle.index_rules.proofs.Words.{◌≡◌, ℕ, Bool, false, cond, refl, sym, ap, ◌∙◌, Option, Some, None, is_none, option_map}
+use Rattle.index_rules.proofs.Words.{option_and_then, unwrap_or, get, true≢false, BadUser, NoUser, Call, Request, AddUser, SetToken}
+use Rattle.index_rules.proofs.Words.{UserRecord, Bytes, same, read_user, read_token, Tables, facts_in, Accept, verdict_now, or_empty}
+use Rattle.index_rules.proofs.Words.{no_user, tables_with_call, History, more, user_after, with_token}
 use Rattle.index_rules.proofs.KeyLemmas.{get-put}
 use Rattle.index_rules.proofs.PutLemmas.{each_put}
 use Rattle.index_rules.proofs.Accepted.{accepted}

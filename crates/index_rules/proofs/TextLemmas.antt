@@ -1,12 +1,10 @@
 -- Texts that the index keeps.
-use Rattle.std.proofs.Common.{◌≡◌, ℕ, ◌≤◌, Bool, true, false, not, ◌&&◌, ◌∙◌, ap, refl, nat_le, length, arith}
+use Rattle.index_rules.proofs.Words.{◌≡◌, ℕ, ◌≤◌, Bool, true, false, not, ◌&&◌, ◌∙◌, ap, refl, length, arith, list_any, IsUtf8, and_parts}
+use Rattle.index_rules.proofs.Words.{and_from, nat_tests, Bytes}
+use Rattle.std.proofs.Common.{nat_le}
 use Rattle.std.specs.Char.{is_control}
-use Rattle.std.specs.List.{list_any}
-use Rattle.std.specs.Str.{IsUtf8, chars}
-use Rattle.std.proofs.lemmas.Bool.{and_parts, and_from}
-use Rattle.std.proofs.lemmas.Bool.Decides.{nat_tests}
+use Rattle.std.specs.Str.{chars}
 use Rattle.std.proofs.lemmas.Str.{is_utf8-from_IsUtf8, IsUtf8-from_is_utf8}
-use Rattle.index_rules.specs.Maps.{Bytes}
 use Rattle.index_rules.specs.Texts.{is_text}
 
 -- what makes a text

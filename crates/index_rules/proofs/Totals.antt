@@ -1,17 +1,12 @@
 -- A sum over the entries of a map: after one entry is put or each value is changed, and if each entry weighs nothing.
-use Rattle.std.proofs.Common.{◌≡◌, ℕ, ◌+◌, ◌≤◌, Bool, true, false, cond, not, refl, sym, ap, ◌∙◌, List, [], ◌∷◌, Some, None, T, arith}
-use Rattle.std.proofs.Common.{sum_by, find, eqb}
-use Rattle.std.specs.Option.{option_map_or}
-use Rattle.std.specs.declared.cmp.Ordering.{Ordering}
-use Rattle.std.specs.declared.cmp.Ordering.TheVariants.{Less, Equal, Greater}
-use Rattle.std.specs.Ordering.{eq_by_cmp, is_eq, is_lt}
-use Rattle.std.specs.FinMap.{get, insert, entries, entries_sorted, entries-insert, get-entries, put, is_sorted}
+use Rattle.index_rules.proofs.Words.{◌≡◌, ℕ, ◌+◌, ◌≤◌, Bool, true, false, cond, not, refl, sym, ap, ◌∙◌, List, [], ◌∷◌, Some, None, T}
+use Rattle.index_rules.proofs.Words.{arith, sum_by, find, option_map_or, Ordering, Less, Equal, Greater, eq_by_cmp, is_eq, is_lt, get}
+use Rattle.index_rules.proofs.Words.{insert, entries, entries_sorted, get-entries, is_sorted, below_all, false≢true, eqb-true, eq-eqb}
+use Rattle.index_rules.proofs.Words.{nat_list_cmp_total, sum_by-cons, Bytes, Map, bytes_cmp, change_values}
+use Rattle.std.proofs.Common.{eqb}
+use Rattle.std.specs.FinMap.{entries-insert, put}
 use Rattle.std.specs.FinMap as fin
-use Rattle.std.specs.FinMap.Entries.{below_all, by_order}
-use Rattle.std.proofs.lemmas.Bool.{false≢true, eqb-true, eq-eqb}
-use Rattle.std.proofs.lemmas.Cmp.{nat_list_cmp_total}
-use Rattle.std.proofs.lemmas.List.Sums.{sum_by-cons}
-use Rattle.index_rules.specs.Maps.{Bytes, Map, bytes_cmp, change_values}
+use Rattle.std.specs.FinMap.Entries.{by_order}
 use Rattle.index_rules.proofs.KeyLemmas.{changed, entries-change_values}
 use Rattle.index_rules.proofs.EntryLemmas.{both_hold, get-found, find-passes}
 

@@ -1,27 +1,21 @@
 -- In a legal history each transfer was ready: the case was open and unanswered, and nothing stood against the transfer.
-use Rattle.std.proofs.Common.{◌≡◌, ◌⊎◌, inl, inr, ℕ, ◌+◌, ◌≤◌, Bool, true, false, cond, not, ◌&&◌, ◌||◌, nat_lt, refl, sym, ap, ◌∙◌, subst}
-use Rattle.std.proofs.Common.{List, [], ◌∷◌, Option, Some, None, is_some, is_none, option_map, option_and_then, arith}
-use Rattle.std.specs.Option.{option_or, option_map_or, IsSomeAnd, IfSome}
-use Rattle.std.proofs.lemmas.Bool.{false≢true, true≢false, ltb-false, and_parts, or_parts, not-false}
-use Rattle.index_names.specs.Project.{read_name}
+use Rattle.index_rules.proofs.Words.{◌≡◌, ◌⊎◌, inl, inr, ℕ, ◌+◌, ◌≤◌, Bool, true, false, cond, not, ◌&&◌, ◌||◌, refl, sym, ap, ◌∙◌, subst}
+use Rattle.index_rules.proofs.Words.{List, [], ◌∷◌, Option, Some, None, is_some, is_none, option_map, option_and_then, arith, option_or}
+use Rattle.index_rules.proofs.Words.{option_map_or, false≢true, true≢false, ltb-false, and_parts, or_parts, not-false, read_name, Attempt}
+use Rattle.index_rules.proofs.Words.{attempt_of, tally_of, attempts_are_counted, HomePageActive, NoCase, NoProject, RecentRelease, TooEarly}
+use Rattle.index_rules.proofs.Words.{TooFewAttempts, Call, Request, OpenCase, RecordAttempt, CloseCase, Transfer, Prohibit, Bytes, same}
+use Rattle.index_rules.proofs.Words.{Accept, held_project, is_held, History, begins, more, is_read_as, State, Free, Held, Prohibited}
+use Rattle.index_rules.proofs.Words.{state_after, is_held_now, is_given_after, last_upload_after, Case, with_attempt, case_by, case_after}
+use Rattle.index_rules.proofs.Words.{is_owners_request, record_of_state, project_after, name_after, record_of_case, case_record_after}
+use Rattle.index_rules.proofs.Words.{IsLegal, verdict_after, facts_after}
+use Rattle.std.proofs.Common.{nat_lt}
+use Rattle.std.specs.Option.{IsSomeAnd, IfSome}
 use Rattle.index_retention.specs.declared.fault.CaseFault.{CaseFault}
 use Rattle.index_retention.specs.declared.fault.CaseFault.TheVariants as case_fault
-use Rattle.index_retention.specs.Attempts.{Attempt, Tally, attempt_of, tally_with, tally_of}
+use Rattle.index_retention.specs.Attempts.{Tally, tally_with}
 use Rattle.index_retention.specs.Transfer.{fewest_sent, six_weeks, twelve_months, too_few_attempts, too_early, recent_release}
 use Rattle.index_retention.specs.Transfer.{stands_against, IsReady}
-use Rattle.index_retention.proofs.TallyLemmas.{attempts_are_counted}
-use Rattle.index_rules.specs.declared.answer.Refusal.TheVariants.{HomePageActive, NoCase, NoProject, RecentRelease, TooEarly}
-use Rattle.index_rules.specs.declared.answer.Refusal.TheVariants.{TooFewAttempts}
-use Rattle.index_rules.specs.declared.call.Call.{Call}
-use Rattle.index_rules.specs.declared.call.Request.{Request}
-use Rattle.index_rules.specs.declared.call.Request.TheVariants.{OpenCase, RecordAttempt, CloseCase, Transfer, Prohibit}
-use Rattle.index_rules.specs.Maps.{Bytes, same}
-use Rattle.index_rules.specs.Verdict.{Accept, held_project, is_held}
-use Rattle.index_rules.specs.History.{History, begins, more, is_read_as}
-use Rattle.index_rules.specs.PastNames.{State, Free, Held, Prohibited, state_after, is_held_now, is_given_after, last_upload_after}
-use Rattle.index_rules.specs.PastCases.{Case, with_attempt, case_by, case_after, is_owners_request, opens_case, is_unanswered_after}
-use Rattle.index_rules.specs.StandsFor.{record_of_state, project_after, name_after, record_of_case, case_record_after}
-use Rattle.index_rules.specs.Legal.{IsLegal, verdict_after, facts_after}
+use Rattle.index_rules.specs.PastCases.{opens_case, is_unanswered_after}
 use Rattle.index_rules.specs.Laws.{WasReady, TransferWasReady, TransfersWereReady}
 use Rattle.index_rules.proofs.Accepted.{accepted}
 use Rattle.index_rules.proofs.KeyLemmas.{same-refl}

@@ -1,32 +1,13 @@
 -- Wrong outcomes do not meet the laws of rights.
-use Rattle.std.proofs.Common.{◌≡◌, inl, inr, ℕ, Bool, true, false, cond, not, refl, sym, ap, ◌∙◌, [], Option, Some, None, is_some, find}
-use Rattle.std.proofs.Common.{option_map}
-use Rattle.std.specs.FinMap.{empty, get, get-empty}
-use Rattle.std.proofs.lemmas.Bool.{false≢true, true≢false, and_from, and_parts, and_right, not_from_false}
-use Rattle.index_names.specs.Project.{read_name}
-use Rattle.index_names.specs.FileName.{project_of}
-use Rattle.index_rules.specs.declared.answer.Refusal.{Refusal}
-use Rattle.index_rules.specs.declared.answer.Refusal.TheVariants.{BadUser, BadFileName, BadName, NotOwner}
-use Rattle.index_rules.specs.declared.call.Call.{Call}
-use Rattle.index_rules.specs.declared.call.Request.{Request}
-use Rattle.index_rules.specs.declared.call.Request.TheVariants.{AddOwner, RemoveOwner, Upload}
-use Rattle.index_rules.specs.declared.records.UserRecord.{UserRecord}
-use Rattle.index_rules.specs.FirstTables.{first_record, first_tables}
-use Rattle.index_rules.specs.Maps.{Bytes, Map, bytes_cmp}
-use Rattle.index_rules.specs.Users.{read_user}
-use Rattle.index_rules.specs.Tables.{Tables}
-use Rattle.index_rules.specs.Requests.{read_file}
-use Rattle.index_rules.specs.Effect.{or_empty}
-use Rattle.index_rules.specs.Facts.{Facts, of_both}
-use Rattle.index_rules.specs.Verdict.{AlreadySo, applies, verdict_of}
-use Rattle.index_rules.specs.History.{History, more, is_read_as}
-use Rattle.index_rules.specs.PastUsers.{bearer_after}
-use Rattle.index_rules.specs.PastNames.{is_given_after, is_held_now, owns_after, state_after}
-use Rattle.index_rules.specs.PastFiles.{is_undeleted_after, last_body_after}
-use Rattle.index_rules.specs.StandsFor.{body_after}
-use Rattle.index_rules.specs.Legal.{IsLegal, facts_after, verdict_after}
+use Rattle.index_rules.proofs.Words.{◌≡◌, inl, inr, ℕ, Bool, true, false, cond, not, refl, sym, ap, ◌∙◌, [], Option, Some, None, is_some}
+use Rattle.index_rules.proofs.Words.{find, option_map, empty, get, get-empty, false≢true, true≢false, and_from, and_parts, and_right}
+use Rattle.index_rules.proofs.Words.{not_from_false, read_name, project_of, Refusal, BadUser, BadFileName, BadName, NotOwner, Call, Request}
+use Rattle.index_rules.proofs.Words.{AddOwner, RemoveOwner, Upload, UserRecord, first_record, first_tables, Bytes, Map, bytes_cmp}
+use Rattle.index_rules.proofs.Words.{read_user, Tables, read_file, or_empty, Facts, of_both, AlreadySo, applies, verdict_of, History, more}
+use Rattle.index_rules.proofs.Words.{is_read_as, bearer_after, is_given_after, is_held_now, owns_after, state_after, is_undeleted_after}
+use Rattle.index_rules.proofs.Words.{last_body_after, body_after, IsLegal, facts_after, verdict_after, HasOwnersUpload, ServesOwnersUploads}
+use Rattle.index_rules.proofs.Words.{WasAllowed, has_right}
 use Rattle.index_rules.specs.Refuted.{RefutesRights, entry_of, name_and_token}
-use Rattle.index_rules.specs.Rights.{HasOwnersUpload, ServesOwnersUploads, WasAllowed, has_right}
 use Rattle.index_rules.proofs.Accepted.{NonePasses-among, NonePasses-find, accepted, refusals}
 use Rattle.index_rules.proofs.KeyLemmas.{same-refl}
 use Rattle.index_rules.proofs.PastReading.{at_key, read_itself, read_key}

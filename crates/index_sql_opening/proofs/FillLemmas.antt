@@ -1,16 +1,9 @@
 -- The first rows of a new index.
-use Rattle.std.proofs.Common.{◌≡◌, [], sym, subst}
-use Rattle.std.specs.List.{AllByRecursion}
-use Rattle.std.specs.Fmt.{digits}
-use Rattle.sqlite_schema.specs.declared.schema.Table.{Table}
-use Rattle.sqlite_schema.specs.declared.schema.Schema.{Schema}
-use Rattle.sqlite_keyed.proofs.ListLemmas.{all_weaker}
-use Rattle.sqlite.specs.State.{State}
+use Rattle.index_sql_opening.proofs.Words.{◌≡◌, [], sym, subst, AllByRecursion, digits, Table, Schema, all_weaker, State, IsStage, stage}
+use Rattle.index_sql_opening.proofs.Words.{no_tables, MakesInTransaction}
 use Rattle.index_sql_schema.specs.Index.{meta_in}
 use Rattle.index_sql_schema.specs.RecordRows.{IsRecordIn, AreRecords, AreRecordsIn, AreRecordsOf}
-use Rattle.index_sql_schema.specs.CreateSteps.{IsStage, stage, no_tables}
 use Rattle.index_sql_schema.proofs.CreateLemmas.{staged_index}
-use Rattle.index_sql_writes.specs.Transaction.{MakesInTransaction}
 
 no_meta : (made : State) → IsStage 9 made → meta_in made.now.trees ≡ []
 unfolding digits

@@ -5,3 +5,4 @@ pub mod RowidLemmas
 pub mod LookLemmas
 pub mod MigrationLemmas
 pub mod SureLemmas
+mod Words

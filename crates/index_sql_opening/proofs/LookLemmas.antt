@@ -1,25 +1,17 @@
 -- What looks at the version leave.
-use Rattle.std.proofs.Common.{◌≡◌, ◌⊎◌, inl, inr, ◌∙◌, ℕ, Bool, true, false, true≢false, List, [], Option, Some, None, IsTrue, refl, sym}
-use Rattle.std.proofs.Common.{subst, arith}
-use Rattle.sqlite_value.specs.Order.{Row}
-use Rattle.sqlite_trees.specs.declared.store.Store.{Ghosts}
-use Rattle.sqlite_schema.specs.declared.command.Returning.{Returning}
-use Rattle.sqlite.specs.declared.error.Error.{Error}
-use Rattle.sqlite.specs.Clock.{timed}
-use Rattle.sqlite.specs.Held.{Held, state}
-use Rattle.sqlite.specs.State.{State, HasCleanDisk, Survives, CommitsShowing, Shown, ShowsRows, FailsToQuery, FailsToShow, IsNotRun}
+use Rattle.index_sql_opening.proofs.Words.{◌≡◌, ◌⊎◌, inl, inr, ◌∙◌, ℕ, true, false, true≢false, List, [], Option, Some, None, IsTrue, refl}
+use Rattle.index_sql_opening.proofs.Words.{sym, subst, arith, Row, Ghosts, Returning, Error, timed, Held, state, State, HasCleanDisk}
+use Rattle.index_sql_opening.proofs.Words.{FailsToQuery, FailsToShow, IsNotRun, everything, understood, IsAnyVersion, select_version_text}
+use Rattle.index_sql_opening.proofs.Words.{shown_open, index_schema}
+use Rattle.std.proofs.Common.{Bool}
+use Rattle.sqlite.specs.State.{Survives, CommitsShowing, Shown, ShowsRows}
 use Rattle.sqlite.specs.State.{IsTooLate, IsUnchanged, IsRolledBack, KeepsCommit}
-use Rattle.sqlite_tied.specs.Compute.{everything}
-use Rattle.sqlite.specs.Listing.{understood}
 use Rattle.sqlite.proofs.Callers.{IsPlain, survives_begin}
 use Rattle.sqlite.proofs.StateLemmas.{survives_then, survives_weaker}
 use Rattle.index_sql_schema.specs.Unchanged.{IsUnchangedIfOpen}
-use Rattle.index_sql_schema.specs.FirstVersion.{IsAnyVersion}
-use Rattle.index_sql_schema.specs.StatementTexts.{select_version_text}
 use Rattle.index_sql_schema.proofs.StateLemmas.{shown_same}
-use Rattle.index_sql_schema.proofs.StayLemmas.{unchanged_stays, shown_open, refused_stays}
+use Rattle.index_sql_schema.proofs.StayLemmas.{unchanged_stays, refused_stays}
 use Rattle.index_sql_schema.proofs.SelectVersion as select_version
-use Rattle.index_sql_schema.specs.Schema.{index_schema}
 use Rattle.index_sql_schema.specs.Looks.{QueriesOnly}
 use Rattle.index_sql_schema.proofs.PlainLemmas.{commits_nowhere}
 use Rattle.index_sql_opening.specs.Making.{IsAtRest}

@@ -1,21 +1,11 @@
 -- The step from version 1 to an index.
-use Rattle.std.proofs.Common.{◌≡◌, ℕ, true, [], Ok, None, IsTrue, arith, refl, subst}
-use Rattle.sqlite_tied.specs.Compute.{everything}
-use Rattle.sqlite_trees.specs.declared.store.Store.{Ghosts}
-use Rattle.sqlite.specs.Held.{Held, state}
-use Rattle.sqlite.specs.Listing.{understood}
-use Rattle.sqlite.specs.State.{State, ExecutesInside}
-use Rattle.index_sql_opening.specs.Migrated.{IsMigrating}
-use Rattle.index_sql_opening.specs.NewAsks.{Unlimited}
+use Rattle.index_sql_opening.proofs.Words.{◌≡◌, ℕ, true, [], Ok, None, IsTrue, arith, refl, subst, everything, Ghosts, Held, state}
+use Rattle.index_sql_opening.proofs.Words.{understood, State, ExecutesInside, IsMigrating, Unlimited, first_version_schema, without_bans}
+use Rattle.index_sql_opening.proofs.Words.{same_meta, index_schema, update_version_text, bans_text, first_eight, MakesInTransaction}
+use Rattle.index_sql_opening.proofs.Words.{IsWrite}
 use Rattle.index_sql_opening.proofs.SureTexts.{table_sure}
-use Rattle.index_sql_schema.specs.FirstVersion.{IsFirstVersion, first_version_schema, without_bans}
-use Rattle.index_sql_schema.specs.Index.{same_meta}
-use Rattle.index_sql_schema.specs.Schema.{index_schema}
-use Rattle.index_sql_schema.specs.StatementTexts.{update_version_text}
-use Rattle.index_sql_schema.specs.TableTexts.{bans_text}
-use Rattle.index_sql_schema.proofs.BanTable.{creates_bans, first_eight}
-use Rattle.index_sql_writes.specs.Transaction.{MakesInTransaction}
-use Rattle.index_sql_writes.proofs.AskLemmas.{IsWrite}
+use Rattle.index_sql_schema.specs.FirstVersion.{IsFirstVersion}
+use Rattle.index_sql_schema.proofs.BanTable.{creates_bans}
 
 pub bans_made : (old new : State) (count : ℕ) → IsMigrating old → ExecutesInside 0 bans_text [] old new (Ok count)
     → MakesInTransaction without_bans same_meta old new

@@ -1,28 +1,20 @@
 -- The tables of a new index, made as SQL answers.
-use Rattle.std.proofs.Common.{◌≡◌, ◌∙◌, ℕ, true, List, [], ◌∷◌, ◌++◌, None, Ok, Err, Result, IsTrue, length, refl, subst}
-use Rattle.sqlite_value.specs.Order.{Row}
-use Rattle.sqlite_trees.specs.declared.store.Store.{Ghosts}
-use Rattle.sqlite_schema.specs.declared.schema.Schema.{Schema}
-use Rattle.sqlite.specs.declared.error.Error.{Error}
+use Rattle.index_sql_opening.proofs.Words.{◌≡◌, ◌∙◌, ℕ, true, List, [], ◌∷◌, ◌++◌, None, Ok, Err, Result, IsTrue, length, refl, subst, Row}
+use Rattle.index_sql_opening.proofs.Words.{Ghosts, Schema, Error, Held, state, State, ExecutesInside, same_meta, IsStage, no_tables}
+use Rattle.index_sql_opening.proofs.Words.{MakesInTransaction, put_user_ask, IsWrite, makes_then, steps_then, Unlimited, table_asks}
+use Rattle.index_sql_opening.proofs.Words.{text_ask, one_user}
 use Rattle.sqlite.specs.declared.transaction.Transaction.{Transaction}
-use Rattle.sqlite.specs.Held.{Held, state}
-use Rattle.sqlite.specs.State.{State, ExecutesInside}
 use Rattle.index_rules.specs.declared.records.UserRecord.{UserRecord}
 use Rattle.index_rules.specs.Maps.{Bytes}
-use Rattle.index_sql_schema.specs.Index.{same_meta}
 use Rattle.index_sql_schema.specs.OnStore.{on_store}
-use Rattle.index_sql_schema.specs.CreateSteps.{IsStage, no_tables}
 use Rattle.index_sql_writes.specs.Asks.{Ask, CanAsk, Statement}
-use Rattle.index_sql_writes.specs.Transaction.{MakesInTransaction}
-use Rattle.index_sql_writes.specs.Statements.{put_user_ask}
 use Rattle.index_sql_writes.specs.Steps.{RunsStatement, StepMakesChange}
 use Rattle.index_sql_writes.specs.Writes.{puts_user}
-use Rattle.index_sql_writes.proofs.AskLemmas.{IsWrite, goes}
+use Rattle.index_sql_writes.proofs.AskLemmas.{goes}
 use Rattle.index_sql_writes.proofs.GoingLemmas.{goes_alone}
-use Rattle.index_sql_writes.proofs.InTurn.{makes_then}
-use Rattle.index_sql_writes.proofs.TakenLemmas.{step_alone, steps_then}
-use Rattle.index_sql_opening.specs.NewAsks.{CreatesTables, StepsFrom, Unlimited, table_asks, text_ask}
-use Rattle.index_sql_opening.specs.Created.{Advances, IsBlank, one_user}
+use Rattle.index_sql_writes.proofs.TakenLemmas.{step_alone}
+use Rattle.index_sql_opening.specs.NewAsks.{CreatesTables, StepsFrom}
+use Rattle.index_sql_opening.specs.Created.{Advances, IsBlank}
 use Rattle.index_sql_opening.proofs.FillLemmas.{made_all, no_rows}
 
 -- a transaction on a blank database begins without a table

@@ -1,18 +1,16 @@
 -- The rowids of tables in a store that is not broken.
-use Rattle.std.proofs.Common.{◌≡◌, List, [], ◌∷◌, sym, ap₂, subst, ◌∙◌, arith, Less, int_cmp}
-use Rattle.std.specs.List.{AllByRecursion}
+use Rattle.index_sql_opening.proofs.Words.{◌≡◌, List, [], ◌∷◌, sym, subst, ◌∙◌, arith, AllByRecursion, Row, Table, Schema, IsSound}
+use Rattle.index_sql_opening.proofs.Words.{all_weaker}
+use Rattle.std.proofs.Common.{ap₂, Less, int_cmp}
 use Rattle.std.proofs.lemmas.Int.{ints}
-use Rattle.sqlite_value.specs.Order.{Row, value_cmp}
+use Rattle.sqlite_value.specs.Order.{value_cmp}
 use Rattle.sqlite_value.proofs.OrderLemmas.{value_cmp-Int}
 use Rattle.sqlite_trees.specs.Tree.{rowid, IsTable}
 use Rattle.sqlite_trees.specs.Objects.{catalog_tree, IsListed}
 use Rattle.sqlite_trees.specs.View.{View, IsOrdered, IsShaped}
 use Rattle.sqlite_trees.specs.declared.store.Shape.TheVariants as shape
-use Rattle.sqlite_schema.specs.declared.schema.Table.{Table}
-use Rattle.sqlite_schema.specs.declared.schema.Schema.{Schema}
-use Rattle.sqlite_catalog.specs.Listing.{IsSound}
 use Rattle.sqlite_catalog.proofs.LayoutLemmas.{laid_out, objects_rise}
-use Rattle.sqlite_keyed.proofs.ListLemmas.{all_both, all_weaker}
+use Rattle.sqlite_keyed.proofs.ListLemmas.{all_both}
 use Rattle.index_sql_schema.specs.Index.{rowid_in, HasRowid, AreRows}
 use Rattle.index_sql_schema.proofs.EditLemmas.{as_int, Differ}
 

@@ -1,10 +1,13 @@
 -- Why the query of the version fails: under a schema of ours it is refused for no reason of its own.
-use Rattle.std.proofs.Common.{◌≡◌, ◌⊎◌, ◌≤◌, inl, inr, ◌∙◌, ℕ, pos, true, false, true≢false, List, [], ◌∷◌, codes, length, Option, None}
-use Rattle.std.proofs.Common.{Some, Result, Ok, Err, IsSome, IsTrue, refl, sym, ap, subst, arith}
+use Rattle.index_sql_opening.proofs.Words.{◌≡◌, ◌⊎◌, ◌≤◌, inl, inr, ◌∙◌, ℕ, pos, true, false, true≢false, List, [], ◌∷◌, length, Option}
+use Rattle.index_sql_opening.proofs.Words.{None, Some, Result, Ok, Err, IsTrue, refl, sym, ap, subst, arith, everything, Int, Returning}
+use Rattle.index_sql_opening.proofs.Words.{Schema, Error, timed, understood, State, IsNotRun, FailsToQuery, FailsToShow}
+use Rattle.index_sql_opening.proofs.Words.{first_version_schema, IsAnyVersion, index_schema, select_version_text}
+use Rattle.std.proofs.Common.{codes}
+use Rattle.std.proofs.Common.{IsSome}
 use Rattle.std.proofs.lemmas.Bool.{cases_Bool}
-use Rattle.sqlite_tied.specs.Compute.{everything}
 use Rattle.sqlite_value.specs.declared.keys.Collation.TheVariants.{Binary}
-use Rattle.sqlite_value.specs.declared.value.Value.TheVariants.{Int, Text}
+use Rattle.sqlite_value.specs.declared.value.Value.TheVariants.{Text}
 use Rattle.sqlite_trees.specs.declared.error.StoreError.{StoreError}
 use Rattle.sqlite_trees.specs.declared.error.StoreError.TheVariants.{OutOfMemory, Io, Corrupt, Full, Broken, Unstorable}
 use Rattle.sqlite_sql.specs.Term.{Term, lit, col, op2}
@@ -12,22 +15,15 @@ use Rattle.sqlite_sql.specs.declared.ops.BinaryOp.TheVariants.{Compare}
 use Rattle.sqlite_sql.specs.declared.ops.CompareOp.TheVariants.{Eq}
 use Rattle.sqlite_schema.specs.declared.command.Command.{Command}
 use Rattle.sqlite_schema.specs.declared.command.Command.TheVariants.{Select}
-use Rattle.sqlite_schema.specs.declared.command.Returning.{Returning}
-use Rattle.sqlite_schema.specs.declared.schema.Schema.{Schema}
 use Rattle.sqlite_resolve.specs.declared.compiled.Compiled.{Compiled}
 use Rattle.sqlite_resolve.specs.declared.error.CompileError.{CompileError}
 use Rattle.sqlite_typing.specs.Types.{accepts_program}
-use Rattle.sqlite.specs.declared.error.Error.{Error}
-use Rattle.sqlite.specs.Clock.{timed}
 use Rattle.sqlite.specs.Effect.{Database, RefusesToRead}
-use Rattle.sqlite.specs.Listing.{understood, reads_listing, IsSourceOf}
-use Rattle.sqlite.specs.State.{State, IsNotRun, FailsToQuery, FailsToShow, HasCause, store_error}
+use Rattle.sqlite.specs.Listing.{reads_listing, IsSourceOf}
+use Rattle.sqlite.specs.State.{HasCause, store_error}
 use Rattle.index_sql_schema.specs.Faults.{fault_by}
 use Rattle.index_sql_schema.specs.Reasons.{HasReason}
 use Rattle.index_rules.specs.declared.answer.Fault.TheVariants as fault
-use Rattle.index_sql_schema.specs.FirstVersion.{first_version_schema, IsAnyVersion}
-use Rattle.index_sql_schema.specs.Schema.{index_schema}
-use Rattle.index_sql_schema.specs.StatementTexts.{select_version_text}
 use Rattle.index_sql_schema.proofs.QueryShapes.{plan, from_one}
 
 abbrev tests : List Term

@@ -1,14 +1,9 @@
 -- The texts of a new index are such that SQL understands each on the tables that are made by then.
-use Rattle.std.proofs.Common.{◌≡◌, ℕ, zero, suc, List, Some, slice_get, arith, refl, subst}
-use Rattle.std.specs.Fmt.{digits}
-use Rattle.sqlite_tied.specs.Compute.{everything}
-use Rattle.sqlite.specs.Listing.{understood}
-use Rattle.index_sql_schema.specs.Schema.{index_schema}
-use Rattle.index_sql_schema.specs.CreateSteps.{all_texts, stage}
-use Rattle.index_sql_schema.specs.StatementTexts.{put_version_text}
-use Rattle.index_sql_schema.specs.TableTexts.{meta_text, users_text, names_text, owners_text, files_text, blobs_text, yanks_text}
-use Rattle.index_sql_schema.specs.TableTexts.{cases_text, bans_text}
-use Rattle.index_sql_writes.proofs.AskLemmas.{IsWrite}
+use Rattle.index_sql_opening.proofs.Words.{◌≡◌, ℕ, List, Some, arith, refl, subst, digits, everything, understood, index_schema, stage}
+use Rattle.index_sql_opening.proofs.Words.{put_version_text, meta_text, users_text, names_text, owners_text, files_text, blobs_text}
+use Rattle.index_sql_opening.proofs.Words.{yanks_text, cases_text, bans_text, IsWrite}
+use Rattle.std.proofs.Common.{zero, suc, slice_get}
+use Rattle.index_sql_schema.specs.CreateSteps.{all_texts}
 
 meta_sure : IsWrite (stage 0) meta_text 0
 unfolding understood everything digits IsWrite

@@ -1,11 +1,6 @@
 -- The queries of the walks have no recursion, so that each can end from where it stands.
-use Rattle.sqlite_tied.specs.Compute.{everything}
-use Rattle.sqlite_value.specs.Order.{Row}
-use Rattle.sqlite.specs.Effect.{Database}
-use Rattle.sqlite.specs.Listing.{understood}
-use Rattle.sqlite.proofs.Callers.{EndsIn, command_of}
-use Rattle.index_sql_schema.specs.Schema.{index_schema}
-use Rattle.index_sql_schema.specs.StatementTexts.{select_bodies_text, select_held_text, select_files_text}
+use Rattle.index_sql_reads.proofs.Words.{everything, Row, Database, understood, EndsIn, command_of, index_schema, select_bodies_text}
+use Rattle.index_sql_reads.proofs.Words.{select_held_text, select_files_text}
 
 pub held_ends : (db : Database) (params : Row) → EndsIn (command_of (understood index_schema select_held_text)) db params
 unfolding understood everything

@@ -1,24 +1,13 @@
 -- What one look-up finds, and several one after another.
-use Rattle.std.proofs.Common.{◌≡◌, ℕ, true, false, List, Option, Some, None, option_map, is_some, Result, Ok, Err, IfOk, IfErr, IsOk, OnOk}
-use Rattle.std.proofs.Common.{IsErrAnd, IsOkUnless, refl, sym, ap, subst, ◌∙◌}
-use Rattle.std.specs.List.{AllByRecursion}
-use Rattle.sqlite_trees.specs.declared.store.Store.{Ghosts}
-use Rattle.sqlite_value.specs.Order.{Row}
-use Rattle.sqlite.specs.Effect.{Database}
-use Rattle.sqlite.specs.Held.{Held, state}
-use Rattle.sqlite.specs.State.{State, HasCleanDisk, Shown}
-use Rattle.index_rules.specs.declared.answer.Fault.{Fault}
+use Rattle.index_sql_reads.proofs.Words.{◌≡◌, ℕ, true, false, List, Some, None, option_map, is_some, Result, Ok, Err, IfOk, IfErr, OnOk}
+use Rattle.index_sql_reads.proofs.Words.{refl, sym, ap, subst, ◌∙◌, AllByRecursion, Ghosts, Row, Database, Held, state, State, HasCleanDisk}
+use Rattle.index_sql_reads.proofs.Words.{Shown, Fault, Tables, index_schema, tables_in, AreRecords, IsIndex, QueriesOnly, HasReason, IsSure}
+use Rattle.index_sql_reads.proofs.Words.{reason_after, known_records}
+use Rattle.std.proofs.Common.{Option, IsOk}
+use Rattle.std.proofs.Common.{IsErrAnd, IsOkUnless}
 use Rattle.index_rules.specs.declared.answer.Fault.TheVariants.{OutOfMemory, Store}
-use Rattle.index_rules.specs.Tables.{Tables}
-use Rattle.index_sql_schema.specs.Schema.{index_schema}
-use Rattle.index_sql_schema.specs.Records.{tables_in}
-use Rattle.index_sql_schema.specs.RecordRows.{AreRecords, AreRecordsOf}
-use Rattle.index_sql_schema.specs.Index.{IsIndex}
-use Rattle.index_sql_schema.specs.Looks.{QueriesOnly}
-use Rattle.index_sql_schema.specs.Reasons.{HasReason}
-use Rattle.index_sql_schema.specs.Sure.{IsSure}
-use Rattle.index_sql_schema.proofs.LookLemmas.{looks_failed, looks_then, reason_after}
-use Rattle.index_sql_schema.proofs.ShownRecords.{known_records}
+use Rattle.index_sql_schema.specs.RecordRows.{AreRecordsOf}
+use Rattle.index_sql_schema.proofs.LookLemmas.{looks_failed, looks_then}
 use Rattle.index_sql_reads.specs.ConnectionTables.{tables_of}
 use Rattle.index_sql_reads.specs.Finds.{FindsInTables}
 

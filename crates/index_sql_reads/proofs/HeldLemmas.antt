@@ -1,30 +1,25 @@
 -- SELECT FROM names .. WHERE state <> 2: it is refused for no reason of its own, and its rows are those of records.
-use Rattle.std.proofs.Common.{◌≡◌, ◌==◌, ℕ, Bool, not, List, [], ◌∷◌, codes, refl, arith}
-use Rattle.std.specs.List.{AllByRecursion, list_all}
-use Rattle.sqlite_tied.specs.Compute.{everything}
+use Rattle.index_sql_reads.proofs.Words.{◌≡◌, ℕ, Bool, not, List, [], ◌∷◌, refl, arith, AllByRecursion, everything, Row, understood, State}
+use Rattle.index_sql_reads.proofs.Words.{Shown, IsIndex, AreRecords, IsNamedRow, index_schema, select_held_text, IsSure, held_shown}
+use Rattle.index_sql_reads.proofs.Words.{known_records}
+use Rattle.std.proofs.Common.{◌==◌, codes}
+use Rattle.std.specs.List.{list_all}
 use Rattle.sqlite_value.specs.declared.value.Value.TheVariants.{Null}
-use Rattle.sqlite_value.specs.Order.{Row, column}
+use Rattle.sqlite_value.specs.Order.{column}
 use Rattle.sqlite_sql.specs.Term.{Term, col, holds}
 use Rattle.sqlite_sql.specs.Query.{end}
 use Rattle.sqlite_sql.specs.Program.{overlay}
 use Rattle.sqlite_sql.specs.declared.ops.CompareOp.TheVariants.{Ne}
-use Rattle.sqlite.specs.Listing.{understood}
-use Rattle.sqlite.specs.State.{State, Shown}
 use Rattle.sqlite.proofs.Callers.{reads_as}
 use Rattle.sqlite_keyed.proofs.ListLemmas.{all_weaker, all_of}
 use Rattle.sqlite_typed.proofs.TestLemmas.{last_term}
-use Rattle.index_sql_schema.specs.Index.{IsIndex}
-use Rattle.index_sql_schema.specs.RecordRows.{AreRecords, IsNamedRow}
 use Rattle.index_sql_schema.specs.Records.{number_in}
-use Rattle.index_sql_schema.specs.Schema.{index_schema, names_at}
-use Rattle.index_sql_schema.specs.StatementTexts.{select_held_text}
-use Rattle.index_sql_schema.specs.Sure.{IsSure}
+use Rattle.index_sql_schema.specs.Schema.{names_at}
 use Rattle.index_sql_schema.proofs.KeyLemmas.{IsNumber, wholes}
 use Rattle.index_sql_schema.proofs.NumberLemmas.{is_number, other_test}
 use Rattle.index_sql_schema.proofs.OrderLemmas.{by_column}
 use Rattle.index_sql_schema.proofs.SelectLemmas.{read_all}
-use Rattle.index_sql_schema.proofs.SelectNames.{held_shown}
-use Rattle.index_sql_schema.proofs.ShownRecords.{known_records, name_shown}
+use Rattle.index_sql_schema.proofs.ShownRecords.{name_shown}
 use Rattle.index_sql_schema.proofs.SureLemmas.{readable_one}
 
 abbrev project : List Term

@@ -4,3 +4,4 @@ pub mod QueryLemmas
 pub mod EndLemmas
 pub mod HeldLemmas
 pub mod ReleaseLemmas
+mod Words

@@ -1,37 +1,26 @@
 -- What a query whose rows are passed on leaves, and what its rows have to do with the tables.
-use Rattle.std.proofs.Common.{◌≡◌, ◌∙◌, ◌⊎◌, ℕ, ◌≤◌, ◌-◌, ◌^◌, Bool, true, false, not, List, [], ◌∷◌, ◌++◌, length, map, Ok, Err, Result}
-use Rattle.std.proofs.Common.{IfErr, OnOk, None, IsTrue, inl, inr, refl, sym, ap, subst, arith, length-append}
-use Rattle.std.specs.List.{AllByRecursion}
-use Rattle.std.proofs.lemmas.List.{map-append, length-map}
-use Rattle.sqlite_trees.specs.declared.store.Store.{Ghosts}
-use Rattle.sqlite_value.specs.Order.{Row}
+use Rattle.index_sql_reads.proofs.Words.{◌≡◌, ◌∙◌, ℕ, Bool, true, false, not, List, [], ◌∷◌, ◌++◌, length, map, Ok, Err, Result, IfErr}
+use Rattle.index_sql_reads.proofs.Words.{OnOk, None, inl, inr, refl, sym, ap, subst, arith, length-append, AllByRecursion, map-append}
+use Rattle.index_sql_reads.proofs.Words.{Ghosts, Row, Database, Held, state, understood, State, HasCleanDisk, Shown, EndsIn, command_of}
+use Rattle.index_sql_reads.proofs.Words.{Fault, WalkEnd, Store, Tables, Walks, has_fault, is_fault, walk_end_of, index_schema, tables_in}
+use Rattle.index_sql_reads.proofs.Words.{IsIndex, shown_open, IsIndexConnection, QueriesOnly, AreRecords, IsSure, HasReason, clean_before}
+use Rattle.index_sql_reads.proofs.Words.{looks_kept, reasoned, IsGiving, IsOf}
+use Rattle.std.proofs.Common.{◌⊎◌, ◌≤◌, ◌-◌, ◌^◌}
+use Rattle.std.proofs.Common.{IsTrue}
+use Rattle.std.proofs.lemmas.List.{length-map}
 use Rattle.sqlite.specs.Clock.{timed}
 use Rattle.sqlite.specs.declared.error.Error.{Error}
-use Rattle.sqlite.specs.Effect.{Database}
 use Rattle.sqlite.specs.Given.{HasGiven, HasBegun, Advances}
-use Rattle.sqlite.specs.Held.{Held, state}
-use Rattle.sqlite.specs.Listing.{understood}
-use Rattle.sqlite.specs.State.{State, HasCleanDisk, Survives, CommitsShowing, Shown, Fails, IsUnchanged}
-use Rattle.sqlite.proofs.Callers.{IsPlain, EndsIn, command_of, begun_plain, begins_shown, given_begin, unchanged_then}
+use Rattle.sqlite.specs.State.{Survives, CommitsShowing, Fails, IsUnchanged}
+use Rattle.sqlite.proofs.Callers.{IsPlain, begun_plain, begins_shown, given_begin, unchanged_then}
 use Rattle.sqlite.proofs.StateLemmas.{survives_then}
-use Rattle.index_rules.specs.declared.answer.Fault.{Fault}
 use Rattle.index_rules.specs.declared.answer.Fault.TheVariants as fault
-use Rattle.index_rules.specs.declared.rows.WalkEnd.{WalkEnd}
-use Rattle.index_rules.specs.declared.rows.WalkEnd.TheVariants.{Store}
-use Rattle.index_rules.specs.Tables.{Tables}
-use Rattle.index_rules.specs.Walks.{EndsEarly, Walks, has_fault, is_fault, walk_end_of}
+use Rattle.index_rules.specs.Walks.{EndsEarly}
 use Rattle.index_rules.proofs.WalkLemmas.{EndsEarly-within}
-use Rattle.index_sql_schema.specs.Schema.{index_schema}
-use Rattle.index_sql_schema.specs.Records.{tables_in}
-use Rattle.index_sql_schema.specs.Index.{IsIndex}
 use Rattle.index_sql_schema.specs.Unchanged.{IsUnchangedIfOpen}
-use Rattle.index_sql_schema.proofs.StayLemmas.{shown_open, unchanged_stays, undone_stays}
-use Rattle.index_sql_schema.specs.Looks.{IsIndexConnection, QueriesOnly}
-use Rattle.index_sql_schema.specs.RecordRows.{AreRecords}
-use Rattle.index_sql_schema.specs.Sure.{IsSure}
-use Rattle.index_sql_schema.specs.Reasons.{HasReason}
-use Rattle.index_sql_schema.proofs.LookLemmas.{clean_before, looks_by, looks_kept, reason_then, reasoned}
-use Rattle.index_sql_reads.specs.Handed.{GivesUnread, HasStayed, IsGiving, IsLastLook, IsOf, WalkFailsAfterRows}
+use Rattle.index_sql_schema.proofs.StayLemmas.{unchanged_stays, undone_stays}
+use Rattle.index_sql_schema.proofs.LookLemmas.{looks_by, reason_then}
+use Rattle.index_sql_reads.specs.Handed.{GivesUnread, HasStayed, IsLastLook, WalkFailsAfterRows}
 use Rattle.index_sql_reads.proofs.WalkLemmas.{front_are, read_walks}
 
 -- a fault of another look is one of the walk

@@ -1,11 +1,10 @@
 -- A file that is found by its name alone tells of its release.
-use Rattle.std.proofs.Common.{◌≡◌, true, Bool, Some, None, find, is_some, refl, sym, ◌∙◌}
-use Rattle.std.specs.FinMap.{get, entries}
+use Rattle.index_sql_reads.proofs.Words.{◌≡◌, true, Bool, Some, None, is_some, refl, sym, ◌∙◌, get, entries, has_release_in, Tables}
+use Rattle.std.proofs.Common.{find}
 use Rattle.std.proofs.lemmas.Bool.{false≢true}
 use Rattle.sqlite_keyed.proofs.SliceLemmas.{any_is_found}
 use Rattle.index_rules.specs.Maps.{Bytes}
-use Rattle.index_rules.specs.Facts.{has_release_in, is_undeleted_of_release}
-use Rattle.index_rules.specs.Tables.{Tables}
+use Rattle.index_rules.specs.Facts.{is_undeleted_of_release}
 use Rattle.index_rules.specs.declared.records.FileRecord.{FileRecord}
 use Rattle.index_rules.proofs.EntryLemmas.{get-missed}
 

@@ -1,13 +1,10 @@
 -- What a walk makes of the taker of its rows.
-use Rattle.std.proofs.Common.{◌≡◌, ◌∙◌, List, [], ◌∷◌, ◌++◌, map, Ok, Err, Result, refl, sym, ap, subst, append-nil}
-use Rattle.std.specs.List.{AllByRecursion}
-use Rattle.std.proofs.lemmas.List.{map-append}
-use Rattle.index_rules.specs.declared.answer.Fault.{Fault}
+use Rattle.index_sql_reads.proofs.Words.{◌≡◌, ◌∙◌, List, [], ◌∷◌, ◌++◌, map, Ok, Err, Result, refl, sym, ap, subst, AllByRecursion}
+use Rattle.index_sql_reads.proofs.Words.{map-append, Fault, WalkEnd, Store, Took, Walks, walk_end_of}
+use Rattle.std.proofs.Common.{append-nil}
 use Rattle.index_rules.specs.declared.answer.Fault.TheVariants as fault
-use Rattle.index_rules.specs.declared.rows.WalkEnd.{WalkEnd}
-use Rattle.index_rules.specs.declared.rows.WalkEnd.TheVariants.{Stopped, OutOfMemory, Store}
-use Rattle.index_rules.specs.Rows.{Took, TookFront}
-use Rattle.index_rules.specs.Walks.{Walks, walk_end_of}
+use Rattle.index_rules.specs.declared.rows.WalkEnd.TheVariants.{Stopped, OutOfMemory}
+use Rattle.index_rules.specs.Rows.{TookFront}
 
 -- the end of a walk tells the fault
 pub fault_told : (f : Fault) → walk_end_of f ≡ Store → f ≡ fault.Store

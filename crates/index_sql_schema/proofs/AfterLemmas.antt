@@ -1,16 +1,9 @@
 -- The tables after one of them changed.
-use Rattle.std.proofs.Common.{◌≡◌, ◌≢◌, ℕ, List, refl, ap, ◌∙◌, arith}
-use Rattle.sqlite_value.specs.Order.{Row}
-use Rattle.sqlite_trees.specs.Tree.{Trees}
-use Rattle.sqlite.specs.Effect.{Database}
-use Rattle.index_rules.specs.declared.records.UserRecord.{UserRecord}
-use Rattle.index_rules.specs.declared.records.NameRecord.{NameRecord}
-use Rattle.index_rules.specs.declared.records.FileRecord.{FileRecord}
+use Rattle.index_sql_schema.proofs.Words.{◌≡◌, ◌≢◌, ℕ, List, refl, ap, ◌∙◌, arith, Row, Trees, Database, UserRecord, NameRecord, FileRecord}
+use Rattle.index_sql_schema.proofs.Words.{Bytes, Tables, tables_in, IsIndex, Rewrites, Changes}
 use Rattle.index_rules.specs.declared.records.CaseRecord.{CaseRecord}
-use Rattle.index_rules.specs.Maps.{Bytes, Map, PairMap, Pairs, TextSet}
-use Rattle.index_rules.specs.Tables.{Tables}
-use Rattle.index_sql_schema.specs.Records.{tables_in}
-use Rattle.index_sql_schema.specs.Index.{IsIndex, Rewrites, Changes, meta_in}
+use Rattle.index_rules.specs.Maps.{Map, PairMap, Pairs, TextSet}
+use Rattle.index_sql_schema.specs.Index.{meta_in}
 use Rattle.index_sql_schema.proofs.EditLemmas.{KeepsOthers, Alters}
 
 module _ (db next : Trees) where

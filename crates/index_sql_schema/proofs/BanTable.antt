@@ -1,20 +1,8 @@
 -- CREATE TABLE bans: a database of version 1 gets the tables of an index.
-use Rattle.std.proofs.Common.{◌≡◌, ℕ, [], ◌∷◌, Ok, refl, sym, subst, ◌∙◌}
-use Rattle.std.specs.Fmt.{digits}
-use Rattle.sqlite_trees.specs.Tree.{Trees}
-use Rattle.std.specs.List.{AllByRecursion}
-use Rattle.sqlite_schema.specs.declared.schema.Table.{Table}
-use Rattle.sqlite_schema.specs.declared.schema.Schema.{Schema}
-use Rattle.sqlite_catalog.specs.Change.{created, KeepsRows}
-use Rattle.sqlite.specs.State.{State, Executes}
-use Rattle.sqlite_keyed.proofs.ListLemmas.{all_both, all-append}
-use Rattle.index_sql_schema.specs.TableTexts.{bans_text}
-use Rattle.index_sql_schema.specs.Schema.{index_schema, bans_at}
-use Rattle.index_sql_schema.specs.CreateSteps.{stage}
-use Rattle.index_sql_schema.specs.FirstVersion.{first_version_schema, IsFirstVersion, without_bans}
-use Rattle.index_sql_schema.specs.Index.{AreRows, Changes}
-use Rattle.index_sql_schema.specs.Records.{tables_in}
-use Rattle.index_sql_schema.specs.RecordRows.{IsRecordIn, AreRecordsIn, AreRecordsOf}
+use Rattle.index_sql_schema.proofs.Words.{◌≡◌, ℕ, [], ◌∷◌, Ok, refl, sym, subst, ◌∙◌, digits, Trees, AllByRecursion, Table, Schema, created}
+use Rattle.index_sql_schema.proofs.Words.{KeepsRows, State, Executes, all_both, all-append, bans_text, index_schema, bans_at, stage}
+use Rattle.index_sql_schema.proofs.Words.{first_version_schema, AreRows, Changes, tables_in, IsRecordIn, AreRecordsIn, AreRecordsOf}
+use Rattle.index_sql_schema.specs.FirstVersion.{IsFirstVersion, without_bans}
 use Rattle.index_sql_schema.proofs.CreateLemmas.{creates, makes_bans}
 
 pub first_eight : stage 8 ≡ first_version_schema

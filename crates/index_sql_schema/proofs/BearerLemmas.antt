@@ -1,23 +1,10 @@
 -- A token is unique among the rows of users, so one user bears it.
-use Rattle.std.proofs.Common.{◌≡◌, ◌⊎◌, inl, inr, true, false, List, [], ◌∷◌, refl, sym, ap, subst, ◌∙◌, true≢false}
-use Rattle.std.proofs.lemmas.Cmp.{nat_list_cmp_total}
-use Rattle.std.proofs.lemmas.Map.Lookups.{exact_bytes}
-use Rattle.std.proofs.lemmas.Map.Text.{is_eq-slice_cmp}
-use Rattle.std.proofs.lemmas.Slice.Eq.{bytes_eq-Decides}
-use Rattle.sqlite_value.specs.Order.{Row, column, bytes}
-use Rattle.sqlite_value.specs.Keys.{plain, first_key}
-use Rattle.sqlite_trees.specs.Tree.{IsAscending}
-use Rattle.sqlite_sql.specs.declared.ops.CompareOp.TheVariants.{Eq}
-use Rattle.sqlite_schema.specs.Rules.{agree}
-use Rattle.sqlite_rules.specs.Lists.{Has}
-use Rattle.sqlite.specs.Effect.{Database}
-use Rattle.sqlite_typed.proofs.TestLemmas.{at_blobs, last_term}
-use Rattle.index_rules.specs.declared.records.UserRecord.{UserRecord}
+use Rattle.index_sql_schema.proofs.Words.{◌≡◌, ◌⊎◌, inl, inr, true, false, List, [], ◌∷◌, refl, sym, ap, subst, ◌∙◌, true≢false}
+use Rattle.index_sql_schema.proofs.Words.{nat_list_cmp_total, exact_bytes, is_eq-slice_cmp, bytes_eq-Decides, Row, column, bytes, plain}
+use Rattle.index_sql_schema.proofs.Words.{first_key, IsAscending, Eq, agree, Has, Database, at_blobs, last_term, UserRecord, users_at}
+use Rattle.index_sql_schema.proofs.Words.{text_key, user_in, tables_in, IsIndex}
 use Rattle.index_rules.specs.Facts.{HasOneBearer}
 use Rattle.index_rules.proofs.KeyLemmas.{same-refl}
-use Rattle.index_sql_schema.specs.Schema.{users_at}
-use Rattle.index_sql_schema.specs.Records.{text_key, user_in, tables_in}
-use Rattle.index_sql_schema.specs.Index.{IsIndex}
 use Rattle.index_sql_schema.proofs.EditLemmas.{has_all}
 use Rattle.index_sql_schema.proofs.KeyLemmas.{IsBlob, blobs, apart_by}
 use Rattle.index_sql_schema.proofs.KeyedLemmas.{row_at_key}

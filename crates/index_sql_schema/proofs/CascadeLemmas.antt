@@ -1,22 +1,13 @@
 -- The rows that a cascade takes out.
-use Rattle.std.proofs.Common.{◌≡◌, ◌≢◌, inl, inr, ℕ, ℤ, ◌+◌, Bool, true, List, [], ◌∷◌, ◌++◌, append-nil, Ok, Err, Some, nat_lt, refl, ap}
-use Rattle.std.proofs.Common.{subst, ◌∙◌}
-use Rattle.std.specs.Prelude.{MatchBool}
-use Rattle.std.specs.List.{AllByRecursion, list_any}
-use Rattle.sqlite_value.specs.declared.keys.Order.{Order}
-use Rattle.sqlite_value.specs.Order.{Row}
-use Rattle.sqlite_trees.specs.Tree.{Trees, rowid}
-use Rattle.sqlite_schema.specs.declared.schema.Table.{Table}
-use Rattle.sqlite_schema.specs.declared.schema.Schema.{Schema}
+use Rattle.index_sql_schema.proofs.Words.{◌≡◌, ◌≢◌, inl, inr, ℕ, ℤ, ◌+◌, Bool, true, List, [], ◌∷◌, ◌++◌, append-nil, Ok, Err, Some, refl}
+use Rattle.index_sql_schema.proofs.Words.{ap, subst, ◌∙◌, MatchBool, AllByRecursion, list_any, Order, Row, Trees, rowid, Table, Schema}
+use Rattle.index_sql_schema.proofs.Words.{Reference, Work, works, is_child_of, Acts, Leads, id_in, without_all, taken_by, delete_where}
+use Rattle.index_sql_schema.proofs.Words.{all_of, rowid_in, HasRowid, AreRows}
+use Rattle.std.proofs.Common.{nat_lt}
 use Rattle.sqlite_schema.specs.declared.schema.Keys.{Keys}
-use Rattle.sqlite_schema.specs.declared.schema.Reference.{Reference}
 use Rattle.sqlite_rules.specs.declared.action.Deed.TheVariants.{Delete}
 use Rattle.sqlite_rules.specs.declared.error.Refusal.TheVariants.{TooDeep}
-use Rattle.sqlite_rules.specs.Action.{Work, works, max_depth, is_child_of, AreChildren, action_edit, Acts, ActsOn, Leads, End}
-use Rattle.sqlite_rules.specs.Edit.{id_in, without_all, taken_by}
-use Rattle.sqlite_keyed.specs.Lists.{delete_where}
-use Rattle.sqlite_keyed.proofs.ListLemmas.{all_of}
-use Rattle.index_sql_schema.specs.Index.{rowid_in, HasRowid, AreRows}
+use Rattle.sqlite_rules.specs.Action.{max_depth, AreChildren, action_edit, ActsOn, End}
 use Rattle.index_sql_schema.proofs.EditLemmas.{as_int, has_all, passed_gone}
 
 -- the children of the rows that lost their key

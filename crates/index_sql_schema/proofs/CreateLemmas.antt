@@ -1,26 +1,17 @@
 -- The tables made one after another.
-use Rattle.std.proofs.Common.{◌≡◌, ℕ, zero, suc, false, List, [], ◌∷◌, slice_get, Some, None, Ok, refl, sym, ap, subst, ◌∙◌}
-use Rattle.std.specs.List.{AllByRecursion}
-use Rattle.std.specs.Fmt.{digits}
-use Rattle.sqlite_tied.specs.Compute.{everything}
-use Rattle.sqlite_schema.specs.declared.schema.Table.{Table}
-use Rattle.sqlite_schema.specs.declared.schema.Schema.{Schema}
+use Rattle.index_sql_schema.proofs.Words.{◌≡◌, ℕ, zero, suc, false, List, [], ◌∷◌, slice_get, Some, None, Ok, refl, sym, ap, subst, ◌∙◌}
+use Rattle.index_sql_schema.proofs.Words.{AllByRecursion, digits, everything, Table, Schema, created, KeepsRows, Tally, Database}
+use Rattle.index_sql_schema.proofs.Words.{IsDatabase, understood, State, Executes, IsPlain, command_of, statement_of, runs_as, all-append}
+use Rattle.index_sql_schema.proofs.Words.{all_both, all_weaker, bans_text, meta_at, users_at, names_at, owners_at, files_at, blobs_at}
+use Rattle.index_sql_schema.proofs.Words.{yanks_at, cases_at, bans_at, index_schema, stage, AreRows, IsIndex, tables_in}
 use Rattle.sqlite_schema.specs.declared.command.Command.TheVariants.{CreateTable}
-use Rattle.sqlite_catalog.specs.Change.{created, next_tree, KeepsRows}
+use Rattle.sqlite_catalog.specs.Change.{next_tree}
 use Rattle.sqlite.specs.Compile.{table_defined_by}
-use Rattle.sqlite.specs.Does.{Tally, lacks_sequence}
-use Rattle.sqlite.specs.Effect.{Database, IsDatabase}
-use Rattle.sqlite.specs.Listing.{understood}
-use Rattle.sqlite.specs.State.{State, Executes, ExecutesInside, Writes}
-use Rattle.sqlite.proofs.Callers.{IsPlain, command_of, statement_of, runs_as}
-use Rattle.sqlite_keyed.proofs.ListLemmas.{all-append, all_both, all_weaker}
+use Rattle.sqlite.specs.Does.{lacks_sequence}
+use Rattle.sqlite.specs.State.{ExecutesInside, Writes}
 use Rattle.index_sql_schema.specs.TableTexts.{meta_text, users_text, names_text, owners_text, files_text, blobs_text, yanks_text}
-use Rattle.index_sql_schema.specs.TableTexts.{cases_text, bans_text}
-use Rattle.index_sql_schema.specs.Schema.{meta_at, users_at, names_at, owners_at, files_at, blobs_at, yanks_at, cases_at, bans_at}
-use Rattle.index_sql_schema.specs.Schema.{index_schema}
-use Rattle.index_sql_schema.specs.CreateSteps.{all_texts, stage, IsStage}
-use Rattle.index_sql_schema.specs.Index.{AreRows, IsIndex}
-use Rattle.index_sql_schema.specs.Records.{tables_in}
+use Rattle.index_sql_schema.specs.TableTexts.{cases_text}
+use Rattle.index_sql_schema.specs.CreateSteps.{all_texts, IsStage}
 use Rattle.index_sql_schema.specs.CreateSteps.{no_tables}
 use Rattle.index_sql_schema.proofs.StatementLemmas.{went, same_value}
 

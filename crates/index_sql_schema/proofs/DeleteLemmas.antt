@@ -1,29 +1,8 @@
 -- DELETE by the key of a table, or by the name that its key begins with.
-use Rattle.std.proofs.Common.{◌≡◌, ℕ, Bool, not, List, [], ◌∷◌, Ok, refl, ◌∙◌}
-use Rattle.std.specs.List.{list_all}
-use Rattle.std.specs.Ordering.{eq_by_cmp}
-use Rattle.std.specs.FinMap.{remove}
-use Rattle.std.proofs.lemmas.Cmp.{nat_list_cmp_total}
-use Rattle.std.proofs.lemmas.Map.Lookups.{exact_bytes}
-use Rattle.std.proofs.lemmas.Map.Text.{is_eq-slice_cmp}
-use Rattle.sqlite_value.specs.declared.value.Value.TheVariants.{Text}
-use Rattle.sqlite_value.specs.Order.{Row}
-use Rattle.sqlite_sql.specs.Term.{Term, col, holds}
-use Rattle.sqlite_schema.specs.declared.schema.Table.{Table}
-use Rattle.sqlite_schema.specs.declared.schema.Keys.TheVariants.{Enforced}
-use Rattle.sqlite_schema.specs.declared.command.Command.TheVariants.{Delete}
-use Rattle.sqlite_rules.specs.Action.{works}
-use Rattle.sqlite.specs.Listing.{understood}
-use Rattle.sqlite.specs.State.{State, Executes}
-use Rattle.sqlite.proofs.Callers.{IsPlain, command_of}
-use Rattle.sqlite_keyed.proofs.ListLemmas.{all_weaker}
-use Rattle.index_rules.specs.Maps.{Bytes, same, bytes_cmp, pair_cmp}
-use Rattle.index_rules.specs.Effect.{without_name}
-use Rattle.index_rules.proofs.OwnerLists.{pair_total, exact_pair}
-use Rattle.index_sql_schema.specs.RowMaps.{map_from}
-use Rattle.index_sql_schema.specs.Schema.{index_schema}
-use Rattle.index_sql_schema.specs.Records.{text_key, pair_key}
-use Rattle.index_sql_schema.specs.Index.{IsIndex}
+use Rattle.index_sql_schema.proofs.Words.{◌≡◌, ℕ, Bool, not, List, [], ◌∷◌, Ok, refl, ◌∙◌, list_all, eq_by_cmp, remove, nat_list_cmp_total}
+use Rattle.index_sql_schema.proofs.Words.{exact_bytes, is_eq-slice_cmp, Text, Row, Term, col, holds, Table, Enforced, Delete, works}
+use Rattle.index_sql_schema.proofs.Words.{understood, State, Executes, IsPlain, command_of, all_weaker, Bytes, same, bytes_cmp, pair_cmp}
+use Rattle.index_sql_schema.proofs.Words.{without_name, pair_total, exact_pair, map_from, index_schema, text_key, pair_key, IsIndex}
 use Rattle.index_sql_schema.proofs.QueryShapes.{plan, from_one, is_param}
 use Rattle.index_sql_schema.proofs.EditLemmas.{Alters}
 use Rattle.index_sql_schema.proofs.KeyLemmas.{IsText, IsPair}

@@ -1,76 +1,32 @@
 -- DELETE FROM names: the name is free, and its owners, yanks and case go.
-use Rattle.std.proofs.Common.{◌≡◌, ◌≢◌, ℕ, ℤ, pos, Bool, true, false, not, cond, ◌&&◌, List, [], ◌∷◌, ◌++◌, codes, filter, map, Option}
-use Rattle.std.proofs.Common.{Some, None, Ok, refl, sym, ap, ap₂, subst, ◌∙◌, int_eq, IsPermutation}
-use Rattle.std.specs.List.{AllByRecursion, list_all, list_any}
-use Rattle.std.specs.Prelude.{bytes_eq}
-use Rattle.std.specs.Ordering.{eq_by_cmp}
-use Rattle.std.proofs.lemmas.Map.Lookups.{exact_bytes}
-use Rattle.std.proofs.lemmas.Map.Text.{is_eq-slice_cmp}
-use Rattle.std.proofs.lemmas.Slice.Eq.{bytes_eq-Decides}
-use Rattle.sqlite_tied.specs.Compute.{everything}
-use Rattle.sqlite_value.specs.declared.value.Value.{Value}
-use Rattle.sqlite_value.specs.declared.value.Value.TheVariants.{Null, Text}
-use Rattle.sqlite_value.specs.Order.{Row, column}
-use Rattle.sqlite_value.specs.Keys.{joined}
-use Rattle.sqlite_trees.specs.Tree.{Trees}
-use Rattle.sqlite_sql.specs.Term.{col, holds}
-use Rattle.sqlite_schema.specs.Names.{same_name}
-use Rattle.sqlite_schema.specs.declared.schema.Keys.TheVariants.{Enforced}
-use Rattle.sqlite_schema.specs.declared.command.Command.TheVariants.{Delete}
-use Rattle.sqlite_rules.specs.Action.{works}
-use Rattle.sqlite_rules.specs.Edit.{row_at}
-use Rattle.sqlite.specs.Listing.{understood}
-use Rattle.sqlite.specs.State.{State, Executes}
-use Rattle.sqlite.proofs.Callers.{IsPlain, command_of}
-use Rattle.sqlite_keyed.specs.Lists.{delete_where}
-use Rattle.sqlite_keyed.proofs.ListLemmas.{all_weaker, all_both}
-use Rattle.index_rules.specs.Maps.{Bytes, same, bytes_cmp}
-use Rattle.index_sql_schema.specs.RowMaps.{map_from}
-use Rattle.std.proofs.lemmas.Cmp.{nat_list_cmp_total}
-use Rattle.index_rules.proofs.OwnerLists.{pair_total, exact_pair}
-use Rattle.index_sql_schema.specs.Records.{tables_in, text_key, user_in, case_in, pair_key, name_in, nothing_in, reason_in, file_in}
-use Rattle.index_sql_schema.specs.Records.{body_in}
+use Rattle.index_sql_schema.proofs.Words.{◌≡◌, ◌≢◌, ℕ, ℤ, pos, Bool, true, false, not, cond, ◌&&◌, List, [], ◌∷◌, ◌++◌, codes, filter, map}
+use Rattle.index_sql_schema.proofs.Words.{Option, Some, None, Ok, refl, sym, ap, ap₂, subst, ◌∙◌, int_eq, IsPermutation, AllByRecursion}
+use Rattle.index_sql_schema.proofs.Words.{list_all, list_any, bytes_eq, eq_by_cmp, exact_bytes, is_eq-slice_cmp, bytes_eq-Decides}
+use Rattle.index_sql_schema.proofs.Words.{everything, Value, Null, Text, Row, column, joined, Trees, col, holds, same_name, Enforced}
+use Rattle.index_sql_schema.proofs.Words.{Delete, works, row_at, understood, State, Executes, IsPlain, command_of, delete_where, all_weaker}
+use Rattle.index_sql_schema.proofs.Words.{all_both, Bytes, same, bytes_cmp, map_from, nat_list_cmp_total, pair_total, exact_pair, tables_in}
+use Rattle.index_sql_schema.proofs.Words.{text_key, user_in, case_in, pair_key, name_in, nothing_in, reason_in, file_in, body_in}
+use Rattle.index_sql_schema.proofs.Words.{index_schema, names_at, owners_at, yanks_at, cases_at, rowid_in, IsIndex, Changes, ◌≤◌, ◌||◌}
+use Rattle.index_sql_schema.proofs.Words.{true≢false, inl, inr, ◌⊎◌, find, arith, ints, plain, first_key, has_rowid, Table, agree}
+use Rattle.index_sql_schema.proofs.Words.{parent_key, is_null, Has, Writes, Leads, loses, edit_of, taken_by, ids_of, Given, Does, Database}
+use Rattle.index_sql_schema.proofs.Words.{mode_of, runs_as, statement_of, one_step, Program, map-map, all-filter, Schema, IsRecordIn}
+use Rattle.index_sql_schema.proofs.Words.{AreRecords, AreRecordsIn, AreRecordsOf, AreRows, same_int, length, IsPermutation-refl, Reference}
 use Rattle.index_sql_schema.proofs.Permutations.{short_permutation}
-use Rattle.index_sql_schema.specs.Schema.{index_schema, names_at, owners_at, yanks_at, cases_at}
-use Rattle.index_sql_schema.specs.Index.{rowid_in, IsIndex, Changes}
 use Rattle.index_sql_schema.proofs.QueryShapes.{plan, from_one, is_param}
 use Rattle.index_sql_schema.proofs.KeyLemmas.{IsText, IsPair, agree_texts}
 use Rattle.index_sql_schema.proofs.KeyedLemmas.{once, gone_is, kept_is}
 use Rattle.index_sql_schema.proofs.RowLemmas.{or_false}
 use Rattle.index_sql_schema.proofs.TableLemmas.{is_key, key_test, cases_keyed, names_keyed, owners_keyed, yanks_keyed}
-use Rattle.std.proofs.Common.{◌≤◌, ◌||◌, true≢false, inl, inr, ◌⊎◌, find, arith}
-use Rattle.std.proofs.lemmas.Int.{ints}
-use Rattle.sqlite_value.specs.Keys.{plain, first_key}
 use Rattle.sqlite_sql.specs.Ops.{binary}
-use Rattle.sqlite_trees.specs.Tree.{has_rowid}
-use Rattle.sqlite_schema.specs.declared.schema.Table.{Table}
 use Rattle.sqlite_schema.specs.declared.schema.Constraint.TheVariants.{ForeignKey}
-use Rattle.sqlite_schema.specs.Rules.{agree, has_parent, is_held, parent_key}
-use Rattle.sqlite_sql.specs.Ops.{is_null}
-use Rattle.sqlite_rules.specs.Lists.{Has}
-use Rattle.sqlite_rules.specs.Action.{Writes, Leads, loses}
-use Rattle.sqlite_rules.specs.Edit.{edit_of, taken_by}
-use Rattle.sqlite_rules.specs.Calls.{ids_of}
-use Rattle.sqlite_rules.specs.declared.error.Rowids.TheVariants.{Given}
-use Rattle.sqlite.specs.Does.{Does}
-use Rattle.sqlite.specs.Effect.{Database}
-use Rattle.sqlite.specs.State.{mode_of}
-use Rattle.sqlite.proofs.Callers.{runs_as, statement_of, one_step}
-use Rattle.sqlite_schema.specs.declared.program.Program.{Program}
-use Rattle.sqlite_keyed.proofs.ListLemmas.{map-map, filter_same, all-filter}
-use Rattle.sqlite_schema.specs.declared.schema.Schema.{Schema}
-use Rattle.index_sql_schema.specs.RecordRows.{IsRecordIn, AreRecords, AreRecordsIn, AreRecordsOf}
-use Rattle.index_sql_schema.specs.Index.{AreRows}
+use Rattle.sqlite_schema.specs.Rules.{has_parent, is_held}
+use Rattle.sqlite_keyed.proofs.ListLemmas.{filter_same}
 use Rattle.index_sql_schema.proofs.EditLemmas.{has_is, has_all, has_filter, filter_passes, one_row, matched_gone, kept_rows}
-use Rattle.sqlite_keyed.proofs.KeyedLemmas.{same_int}
 use Rattle.index_sql_schema.proofs.KeyLemmas.{passing}
 use Rattle.index_sql_schema.proofs.TypedLemmas.{first_part}
 use Rattle.index_sql_schema.proofs.StatementLemmas.{delete_edit}
 use Rattle.index_sql_schema.proofs.WriteLemmas.{answered, edit_with}
-use Rattle.std.proofs.Common.{length}
-use Rattle.std.proofs.lemmas.List.Sorted.{IsPermutation-refl}
 use Rattle.index_sql_schema.proofs.RemoveLemmas.{three_works, three_left, hit, to_names}
-use Rattle.sqlite_schema.specs.declared.schema.Reference.{Reference}
 use Rattle.index_sql_schema.specs.StatementTexts.{delete_name_text}
 use Rattle.index_rules.specs.Effect.{without_record}
 

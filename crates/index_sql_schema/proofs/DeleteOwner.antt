@@ -1,16 +1,6 @@
 -- DELETE FROM owners by name and user: the user does not own the name.
-use Rattle.std.proofs.Common.{ℕ, [], ◌∷◌, Ok, refl}
-use Rattle.std.specs.FinMap.{remove}
-use Rattle.sqlite_tied.specs.Compute.{everything}
-use Rattle.sqlite_value.specs.declared.value.Value.TheVariants.{Text}
-use Rattle.sqlite_value.specs.Keys.{joined}
-use Rattle.sqlite_schema.specs.Names.{same_name}
-use Rattle.sqlite.specs.Listing.{understood}
-use Rattle.sqlite.specs.State.{State, Executes}
-use Rattle.index_rules.specs.Maps.{Bytes}
-use Rattle.index_sql_schema.specs.Schema.{owners_at}
-use Rattle.index_sql_schema.specs.Records.{nothing_in}
-use Rattle.index_sql_schema.specs.Index.{IsIndex, Changes}
+use Rattle.index_sql_schema.proofs.Words.{ℕ, [], ◌∷◌, Ok, refl, remove, everything, Text, joined, same_name, understood, State, Executes}
+use Rattle.index_sql_schema.proofs.Words.{Bytes, owners_at, nothing_in, IsIndex, Changes}
 use Rattle.index_sql_schema.specs.StatementTexts.{delete_owner_text}
 use Rattle.index_sql_schema.proofs.QueryShapes.{is_param}
 use Rattle.index_sql_schema.proofs.TableLemmas.{owners_keyed}

@@ -1,32 +1,22 @@
 -- What an edit makes of a table without a repeated rowid, whatever the order of its rows.
-use Rattle.std.proofs.Common.{◌≡◌, ◌≢◌, inl, inr, ℕ, ℤ, Bool, true, false, not, ◌||◌, ◌&&◌, cond, List, [], ◌∷◌, ◌++◌, map, filter, fold}
-use Rattle.std.proofs.Common.{refl, sym, ap, ap₂, subst, ◌∙◌, arith, true≢false, IsTrue, is_eq, Ordering, Less, Equal, Greater, int_eq, eqb}
-use Rattle.std.proofs.Common.{IsPermutation}
-use Rattle.std.specs.List.{AllByRecursion, list_any}
-use Rattle.std.specs.Ordering.{match_ordering}
-use Rattle.std.proofs.lemmas.Int.{ints}
-use Rattle.std.proofs.lemmas.List.Sorted.{IsPermutation-refl, IsPermutation-sym, IsPermutation-cons, IsPermutation-trans}
-use Rattle.std.proofs.lemmas.List.Sorted.{IsPermutation-middle, IsPermutation-append_right}
-use Rattle.sqlite_value.specs.declared.value.Value.{Value}
-use Rattle.sqlite_value.specs.declared.value.Value.TheVariants.{Null, Int, Real, Text, Blob}
-use Rattle.sqlite_value.specs.Order.{Row, value_cmp}
+use Rattle.index_sql_schema.proofs.Words.{◌≡◌, ◌≢◌, inl, inr, ℕ, ℤ, Bool, true, false, not, ◌||◌, ◌&&◌, cond, List, [], ◌∷◌, ◌++◌, map}
+use Rattle.index_sql_schema.proofs.Words.{filter, refl, sym, ap, ap₂, subst, ◌∙◌, arith, true≢false, IsTrue, int_eq, IsPermutation}
+use Rattle.index_sql_schema.proofs.Words.{AllByRecursion, list_any, match_ordering, ints, IsPermutation-refl, IsPermutation-sym}
+use Rattle.index_sql_schema.proofs.Words.{IsPermutation-cons, IsPermutation-trans, IsPermutation-middle, Value, Null, Int, Real, Text, Blob}
+use Rattle.index_sql_schema.proofs.Words.{Row, value_cmp, Trees, rowid, IsAscending, put_row, has_rowid, Table, Schema, Has, id_in}
+use Rattle.index_sql_schema.proofs.Words.{numbered, put_all, without_all, are_fresh, Given, Database, delete_where, all_weaker, all_both}
+use Rattle.index_sql_schema.proofs.Words.{all-filter, none_from_any, ascending-filter, along_permutation, all_from_test, same_int}
+use Rattle.index_sql_schema.proofs.Words.{index_schema, rowid_in, HasRowid, AreRows, IsIndex, IsRecordIn, AreRecords, AreRecordsIn}
+use Rattle.index_sql_schema.proofs.Words.{AreRecordsOf}
+use Rattle.std.proofs.Common.{fold}
+use Rattle.std.proofs.Common.{is_eq, Ordering, Less, Equal, Greater, eqb}
+use Rattle.std.proofs.lemmas.List.Sorted.{IsPermutation-append_right}
 use Rattle.sqlite_value.proofs.OrderLemmas.{value_cmp-Int}
-use Rattle.sqlite_trees.specs.Tree.{Trees, rowid, IsAscending, put_row, has_rowid}
 use Rattle.sqlite_trees.specs.View.{is_int}
-use Rattle.sqlite_schema.specs.declared.schema.Table.{Table}
-use Rattle.sqlite_schema.specs.declared.schema.Schema.{Schema}
-use Rattle.sqlite_rules.specs.Lists.{Has}
-use Rattle.sqlite_rules.specs.Edit.{id_in, numbered, put_all, without_all, is_taken, are_fresh, have_rowids}
-use Rattle.sqlite_rules.specs.declared.error.Rowids.TheVariants.{Given}
-use Rattle.sqlite.specs.Effect.{Database}
-use Rattle.sqlite_keyed.specs.Lists.{delete_where, without_key}
-use Rattle.sqlite_keyed.proofs.ListLemmas.{all_weaker, all_both, all-filter, none_from_any, ascending-filter, along_permutation}
-use Rattle.sqlite_keyed.proofs.ListLemmas.{all_from_test}
-use Rattle.sqlite_keyed.proofs.KeyedLemmas.{same_int}
+use Rattle.sqlite_rules.specs.Edit.{is_taken, have_rowids}
+use Rattle.sqlite_keyed.specs.Lists.{without_key}
 use Rattle.index_sql_schema.proofs.Permutations.{all_permutation, ascending_permutation}
-use Rattle.index_sql_schema.specs.Schema.{index_schema}
-use Rattle.index_sql_schema.specs.Index.{rowid_in, HasRowid, AreRows, IsNumbered, IsIndex}
-use Rattle.index_sql_schema.specs.RecordRows.{IsRecordIn, AreRecords, AreRecordsIn, AreRecordsOf}
+use Rattle.index_sql_schema.specs.Index.{IsNumbered}
 
 pub as_int : (v : Value) → IsTrue (is_int v) → v ≡ Int (id_in v)
 as_int Null h = absurd (true≢false (sym h))

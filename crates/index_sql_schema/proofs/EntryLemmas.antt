@@ -1,23 +1,17 @@
 -- The entries of the map that rows stand for: they are the rows, in the order of their keys.
-use Rattle.std.proofs.Common.{◌≡◌, Bool, false, cond, List, [], ◌∷◌, map, filter, find, length, refl, sym, ap, ap₂, subst, ◌∙◌, arith, Some}
-use Rattle.std.proofs.Common.{None, option_map, IsPermutation, IsSorted}
-use Rattle.std.specs.List.{AllByRecursion}
+use Rattle.index_sql_schema.proofs.Words.{◌≡◌, Bool, false, cond, List, [], ◌∷◌, map, filter, find, length, refl, sym, ap, ap₂, subst, ◌∙◌}
+use Rattle.index_sql_schema.proofs.Words.{arith, Some, None, option_map, IsPermutation, IsSorted, AllByRecursion, Ordering, Less, Equal}
+use Rattle.index_sql_schema.proofs.Words.{Greater, eq_by_cmp, is_eq, IsTotalOrder, IsAntisymmetric, entries, IsPermutation-map}
+use Rattle.index_sql_schema.proofs.Words.{IsPermutation-refl, IsPermutation-sym, IsPermutation-cons, IsPermutation-trans}
+use Rattle.index_sql_schema.proofs.Words.{IsPermutation-middle, IsAscending, ascending-filter, IsPermutation-filter, sorted_unique}
+use Rattle.index_sql_schema.proofs.Words.{map_from}
 use Rattle.std.specs.List.Sorted.{IsStrictlySortedBy}
-use Rattle.std.specs.declared.cmp.Ordering.{Ordering}
-use Rattle.std.specs.declared.cmp.Ordering.TheVariants.{Less, Equal, Greater}
-use Rattle.std.specs.Ordering.{eq_by_cmp, is_eq}
-use Rattle.std.specs.Cmp.{IsTotalOrder}
-use Rattle.std.specs.FinMap.{IsAntisymmetric, empty, len-entries, len-empty, get-entries, entries, entries-insert}
+use Rattle.std.specs.FinMap.{empty, len-entries, len-empty, get-entries, entries-insert}
 use Rattle.std.specs.FinMap as fin
 use Rattle.std.specs.FinMap.Entries.{put, by_order}
 use Rattle.std.proofs.lemmas.Cmp.{on_total}
-use Rattle.std.proofs.lemmas.List.Sorted.{IsPermutation-map, IsPermutation-refl, IsPermutation-sym, IsPermutation-cons, IsPermutation-trans}
-use Rattle.std.proofs.lemmas.List.Sorted.{IsPermutation-middle}
-use Rattle.sqlite_trees.specs.Tree.{IsAscending}
-use Rattle.sqlite_keyed.proofs.ListLemmas.{ascending_from_map, ascending_weaker, ascending-filter, ascending-map, IsPermutation-filter}
-use Rattle.sqlite_keyed.proofs.SortLemmas.{sorted_unique}
+use Rattle.sqlite_keyed.proofs.ListLemmas.{ascending_from_map, ascending_weaker, ascending-map}
 use Rattle.index_rules.proofs.Rising.{IsStrictlySortedBy-keys}
-use Rattle.index_sql_schema.specs.RowMaps.{map_from}
 use Rattle.index_sql_schema.proofs.RowLemmas.{entry, is_at, AreApart, get-map_from}
 
 put_permutation : {K X : Type 0} (R : K → K → Ordering) (k : K) (v : X) (es : List (K × X)) → fin.find R k es ≡ None

@@ -1,38 +1,17 @@
 -- What the rules say of the rows of any table: their types, and that no two have one key.
-use Rattle.std.proofs.Common.{ℤ, ◌≡◌, ℕ, suc, ◌+◌, ◌&&◌, ◌||◌, not, Bool, true, false, List, [], ◌∷◌, drop, slice_get, slice_index_or, Some}
-use Rattle.std.proofs.Common.{None, refl, sym, ap, ap₂, subst, ◌∙◌, arith, true≢false}
-use Rattle.std.specs.List.{AllByRecursion}
-use Rattle.std.proofs.lemmas.Map.Text.{is_eq-slice_cmp}
-use Rattle.std.specs.Prelude.{bytes_eq}
-use Rattle.std.specs.Ordering.{eq_by_cmp, int_eq}
-use Rattle.sqlite_value.specs.declared.value.Value.{Value}
-use Rattle.sqlite_value.specs.declared.value.Value.TheVariants.{Null, Int, Text, Blob}
-use Rattle.sqlite_value.specs.declared.keys.Order.{Order}
-use Rattle.sqlite_value.specs.Order.{Row, column, bytes}
-use Rattle.sqlite_value.specs.Keys.{plain, first_key}
-use Rattle.sqlite_trees.specs.Tree.{rowid, IsAscending}
-use Rattle.sqlite_sql.specs.Ops.{is_null}
-use Rattle.sqlite_sql.specs.Term.{holds}
-use Rattle.sqlite_sql.specs.declared.ops.CompareOp.TheVariants.{Eq, Ne}
+use Rattle.index_sql_schema.proofs.Words.{ℤ, ◌≡◌, ℕ, suc, ◌+◌, ◌&&◌, ◌||◌, not, Bool, true, false, List, [], ◌∷◌, drop, slice_get}
+use Rattle.index_sql_schema.proofs.Words.{slice_index_or, Some, None, refl, sym, ap, ap₂, subst, ◌∙◌, arith, true≢false, AllByRecursion}
+use Rattle.index_sql_schema.proofs.Words.{is_eq-slice_cmp, bytes_eq, eq_by_cmp, Value, Null, Int, Text, Blob, Order, Row, column, bytes}
+use Rattle.index_sql_schema.proofs.Words.{plain, first_key, rowid, IsAscending, is_null, holds, Eq, Ne, Column, Index, Table, Constraint}
+use Rattle.index_sql_schema.proofs.Words.{Datatype, NotNull, is_of, Keeps, passes, are_typed, are_present, has_computed, guards, agree}
+use Rattle.index_sql_schema.proofs.Words.{at_texts, at_blobs, at_ints, last_term, id_in, Database, all_both, all_weaker, all_from_test}
+use Rattle.index_sql_schema.proofs.Words.{all-slice_get, none_from_any, bytes_cmp, pair_cmp, same_pair, pair_total, nat_list_cmp_total}
+use Rattle.index_sql_schema.proofs.Words.{text_key, pair_key, eq_by_cmp_equiv, index_schema, rowid_in, HasRowid, AreRows, IsIndex}
+use Rattle.std.specs.Ordering.{int_eq}
 use Rattle.sqlite_schema.specs.declared.schema.Kind.{Kind}
 use Rattle.sqlite_schema.specs.declared.schema.Kind.TheVariants as kind
-use Rattle.sqlite_schema.specs.declared.schema.Column.{Column}
-use Rattle.sqlite_schema.specs.declared.schema.Index.{Index}
-use Rattle.sqlite_schema.specs.declared.schema.Table.{Table}
-use Rattle.sqlite_schema.specs.declared.schema.Constraint.{Constraint}
-use Rattle.sqlite_schema.specs.declared.schema.Constraint.TheVariants.{Datatype, NotNull, Unique}
-use Rattle.sqlite_schema.specs.Rules.{is_of, Keeps, passes, are_typed, are_present, has_computed, guards, agree, clashes, differ}
-use Rattle.sqlite_typed.proofs.TestLemmas.{at_texts, at_blobs, at_ints, last_term}
-use Rattle.sqlite_rules.specs.Edit.{id_in}
-use Rattle.sqlite.specs.Effect.{Database}
-use Rattle.sqlite_keyed.proofs.ListLemmas.{all_both, all_weaker, all_from_test, all-slice_get, none_from_any}
-use Rattle.index_rules.specs.Maps.{bytes_cmp, pair_cmp}
-use Rattle.index_rules.proofs.OwnerLists.{same_pair, pair_total}
-use Rattle.std.proofs.lemmas.Cmp.{nat_list_cmp_total}
-use Rattle.index_sql_schema.specs.Records.{text_key, pair_key}
-use Rattle.std.proofs.lemmas.Cmp.{eq_by_cmp_equiv}
-use Rattle.index_sql_schema.specs.Schema.{index_schema}
-use Rattle.index_sql_schema.specs.Index.{rowid_in, HasRowid, AreRows, IsIndex}
+use Rattle.sqlite_schema.specs.declared.schema.Constraint.TheVariants.{Unique}
+use Rattle.sqlite_schema.specs.Rules.{clashes, differ}
 use Rattle.index_sql_schema.proofs.QueryShapes.{is_param}
 use Rattle.index_sql_schema.proofs.EditLemmas.{as_int, Differ, other_way}
 use Rattle.index_sql_schema.proofs.TypedLemmas.{typed_at, present_at, as_text, as_blob, as_whole, first_part}

@@ -1,22 +1,11 @@
 -- A table as a map by its key, after one statement.
-use Rattle.std.proofs.Common.{◌≡◌, ◌≤◌, inl, inr, ℕ, Bool, true, false, cond, List, [], ◌∷◌, filter, find, length, slice_get, Option, Some}
-use Rattle.std.proofs.Common.{None, option_map, refl, sym, ap, subst, ◌∙◌, IsPermutation}
-use Rattle.std.specs.declared.cmp.Ordering.{Ordering}
-use Rattle.std.specs.Ordering.{eq_by_cmp}
-use Rattle.std.specs.Cmp.{IsTotalOrder}
-use Rattle.std.specs.FinMap.{FinMap, IsAntisymmetric, get, insert, remove, retain_keys}
-use Rattle.std.proofs.lemmas.Cmp.{eq_by_cmp_equiv}
-use Rattle.std.proofs.lemmas.List.Sorted.{IsPermutation-sym}
-use Rattle.sqlite_value.specs.Order.{Row}
-use Rattle.sqlite_trees.specs.Tree.{IsAscending}
-use Rattle.sqlite_rules.specs.Lists.{Has}
-use Rattle.sqlite.specs.Effect.{Database}
-use Rattle.sqlite_keyed.specs.Lists.{delete_where}
-use Rattle.sqlite_keyed.proofs.ListLemmas.{slice_get-filter}
-use Rattle.index_sql_schema.specs.RowMaps.{map_from}
+use Rattle.index_sql_schema.proofs.Words.{◌≡◌, ◌≤◌, inl, inr, ℕ, Bool, true, false, cond, List, [], ◌∷◌, filter, find, length, slice_get}
+use Rattle.index_sql_schema.proofs.Words.{Option, Some, None, option_map, refl, sym, ap, subst, ◌∙◌, IsPermutation, Ordering, eq_by_cmp}
+use Rattle.index_sql_schema.proofs.Words.{IsTotalOrder, FinMap, IsAntisymmetric, get, insert, remove, retain_keys, eq_by_cmp_equiv}
+use Rattle.index_sql_schema.proofs.Words.{IsPermutation-sym, Row, IsAscending, Has, Database, delete_where, slice_get-filter, map_from}
+use Rattle.index_sql_schema.proofs.Words.{IsIndex}
 use Rattle.index_sql_schema.proofs.RowLemmas.{at_most_one, same_rows, map_from-filter, map_from-delete, map_from-put, get-map_from}
 use Rattle.index_sql_schema.proofs.Permutations.{short_permutation}
-use Rattle.index_sql_schema.specs.Index.{IsIndex}
 use Rattle.index_sql_schema.proofs.EditLemmas.{has_all}
 
 -- what is found is in the list, and passes

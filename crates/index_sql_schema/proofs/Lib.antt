@@ -62,3 +62,4 @@ pub mod SelectBodies
 pub mod SelectFiles
 pub mod PlainLemmas
 pub mod LookLemmas
+mod Words

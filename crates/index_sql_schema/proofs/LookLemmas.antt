@@ -1,30 +1,21 @@
 -- What looks leave: one by what the port says of a query, and several one after another.
-use Rattle.std.proofs.Common.{◌≡◌, ◌≤◌, ◌∙◌, ℕ, Bool, true, false, true≢false, List, IsTrue, IsSome, inl, inr, refl, sym, subst, arith}
+use Rattle.index_sql_schema.proofs.Words.{◌≡◌, ◌≤◌, ◌∙◌, ℕ, Bool, true, false, true≢false, List, IsTrue, IsSome, inl, inr, refl, sym, subst}
+use Rattle.index_sql_schema.proofs.Words.{arith, StoreError, Trees, Row, Error, state, understood, State, CommitsShowing, Shown}
+use Rattle.index_sql_schema.proofs.Words.{FailsToQuery, HasCause, store_error, IsPlain, index_schema, IsIndex, IsUnchangedIfOpen, IsSure}
+use Rattle.index_sql_schema.proofs.Words.{QueriesOnly, HasReason, AreRecords}
 use Rattle.std.proofs.lemmas.Bool.{cases_Bool}
 use Rattle.sqlite_disk.specs.Disk.{MoreFaults}
-use Rattle.sqlite_trees.specs.declared.error.StoreError.{StoreError}
 use Rattle.sqlite_trees.specs.declared.error.StoreError.TheVariants.{OutOfMemory, Io, Corrupt, Full, Broken, Unstorable}
 use Rattle.sqlite_trees.specs.declared.store.Store.{Ghosts}
-use Rattle.sqlite_trees.specs.Tree.{Trees}
-use Rattle.sqlite_value.specs.Order.{Row}
-use Rattle.sqlite.specs.declared.error.Error.{Error}
-use Rattle.sqlite.specs.Held.{Held, state}
-use Rattle.sqlite.specs.Listing.{understood}
-use Rattle.sqlite.specs.State.{State, HasCleanDisk, Survives, CommitsShowing, Shown, FailsToQuery, HasCause, store_error}
-use Rattle.sqlite.proofs.Callers.{IsPlain}
+use Rattle.sqlite.specs.Held.{Held}
+use Rattle.sqlite.specs.State.{HasCleanDisk, Survives}
 use Rattle.sqlite.proofs.StateLemmas.{survives_then, survives_weaker}
-use Rattle.index_sql_schema.specs.Schema.{index_schema}
-use Rattle.index_sql_schema.specs.Index.{IsIndex}
-use Rattle.index_sql_schema.specs.Unchanged.{IsUnchangedIfOpen}
 use Rattle.index_sql_schema.proofs.StayLemmas.{shown_open, shown_stays, refused_stays}
-use Rattle.index_sql_schema.specs.Sure.{IsSure}
 use Rattle.index_sql_schema.proofs.SureLemmas.{fails_for}
 use Rattle.index_rules.specs.declared.answer.Fault.TheVariants as fault
 use Rattle.index_sql_schema.specs.Faults.{fault_by}
-use Rattle.index_sql_schema.specs.Looks.{IsIndexConnection, QueriesOnly}
+use Rattle.index_sql_schema.specs.Looks.{IsIndexConnection}
 use Rattle.index_sql_schema.proofs.PlainLemmas.{commits_nowhere}
-use Rattle.index_sql_schema.specs.Reasons.{HasReason}
-use Rattle.index_sql_schema.specs.RecordRows.{AreRecords}
 
 pub clean_before : (old new : State) (P : Trees → Type 0) → Survives old new P → HasCleanDisk new → HasCleanDisk old
 clean_before old new P it clean = omega (arith, it.clean)

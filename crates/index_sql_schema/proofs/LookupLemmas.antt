@@ -1,27 +1,10 @@
 -- SELECT by the key of a table: the first row of the answer has the record.
-use Rattle.std.proofs.Common.{◌≡◌, ℕ, Bool, false, List, [], ◌∷◌, map, filter, slice_get, Option, Some, None, option_map, refl, sym, ap}
-use Rattle.std.proofs.Common.{subst, ◌∙◌, IsPermutation}
-use Rattle.std.specs.List.{list_all, AllByRecursion}
-use Rattle.std.specs.Ordering.{eq_by_cmp}
-use Rattle.std.specs.FinMap.{get}
-use Rattle.std.proofs.lemmas.Cmp.{nat_list_cmp_total}
-use Rattle.std.proofs.lemmas.Map.Lookups.{exact_bytes}
-use Rattle.sqlite_value.specs.declared.value.Value.TheVariants.{Null, Text}
-use Rattle.sqlite_value.specs.Order.{Row}
-use Rattle.sqlite_sql.specs.Term.{Term, eval_all, holds}
-use Rattle.sqlite_schema.specs.declared.schema.Table.{Table}
-use Rattle.sqlite_schema.specs.declared.command.Command.TheVariants.{Select}
-use Rattle.sqlite.specs.Listing.{understood, reads_listing}
-use Rattle.sqlite.specs.State.{State, Shown}
-use Rattle.sqlite.proofs.Callers.{IsPlain, command_of, reads_as}
-use Rattle.sqlite_keyed.proofs.ListLemmas.{all_weaker, all-filter, all_map}
+use Rattle.index_sql_schema.proofs.Words.{◌≡◌, ℕ, Bool, false, List, [], ◌∷◌, map, filter, slice_get, Option, Some, None, option_map, refl}
+use Rattle.index_sql_schema.proofs.Words.{sym, ap, subst, ◌∙◌, IsPermutation, list_all, AllByRecursion, eq_by_cmp, get, nat_list_cmp_total}
+use Rattle.index_sql_schema.proofs.Words.{exact_bytes, Null, Text, Row, Term, eval_all, holds, Table, Select, understood, reads_listing}
+use Rattle.index_sql_schema.proofs.Words.{State, Shown, IsPlain, command_of, reads_as, all_weaker, all-filter, all_map, Bytes, bytes_cmp}
+use Rattle.index_sql_schema.proofs.Words.{pair_cmp, pair_total, exact_pair, map_from, index_schema, text_key, pair_key, IsIndex}
 use Rattle.index_sql_schema.proofs.Permutations.{all_permutation}
-use Rattle.index_rules.specs.Maps.{Bytes, bytes_cmp, pair_cmp}
-use Rattle.index_rules.proofs.OwnerLists.{pair_total, exact_pair}
-use Rattle.index_sql_schema.specs.RowMaps.{map_from}
-use Rattle.index_sql_schema.specs.Schema.{index_schema}
-use Rattle.index_sql_schema.specs.Records.{text_key, pair_key}
-use Rattle.index_sql_schema.specs.Index.{IsIndex}
 use Rattle.index_sql_schema.proofs.QueryShapes.{plan, from_one, is_param}
 use Rattle.index_sql_schema.proofs.KeyLemmas.{IsText, IsPair}
 use Rattle.index_sql_schema.proofs.KeyedLemmas.{found_is}

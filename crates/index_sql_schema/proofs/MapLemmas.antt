@@ -1,10 +1,8 @@
 -- Maps by what they answer.
-use Rattle.std.proofs.Common.{◌≡◌, Bool, true, false, cond, not, refl, sym, ap, ◌∙◌, Option, Some, None}
-use Rattle.std.specs.declared.cmp.Ordering.{Ordering}
-use Rattle.std.specs.Ordering.{eq_by_cmp}
-use Rattle.std.specs.Cmp.{IsTotalOrder}
-use Rattle.std.specs.FinMap.{FinMap, IsAntisymmetric, get, insert, remove, retain_keys, get-retain_keys, get-insert, get-remove, same_map}
-use Rattle.std.proofs.lemmas.Cmp.{eq_by_cmp_equiv}
+use Rattle.index_sql_schema.proofs.Words.{◌≡◌, Bool, true, false, cond, not, refl, sym, ap, ◌∙◌, Option, Some, None, Ordering, eq_by_cmp}
+use Rattle.index_sql_schema.proofs.Words.{IsTotalOrder, FinMap, IsAntisymmetric, get, insert, remove, retain_keys, get-retain_keys}
+use Rattle.index_sql_schema.proofs.Words.{same_map, eq_by_cmp_equiv}
+use Rattle.std.specs.FinMap.{get-insert, get-remove}
 
 turned : {A : Type 0} (b : Bool) (x y : A) → cond (not b) x y ≡ cond b y x
 turned true x y = refl

@@ -1,18 +1,9 @@
 -- Tests of a column of whole numbers against a number.
-use Rattle.std.proofs.Common.{◌≡◌, ◌==◌, ℕ, suc, ℤ, pos, negsuc, Bool, true, false, not, [], ◌∷◌, refl, sym, ap, ◌∙◌, int_eq, arith}
-use Rattle.std.proofs.Common.{true≢false}
-use Rattle.std.proofs.lemmas.Int.{ints}
-use Rattle.sqlite_value.specs.declared.value.Value.TheVariants.{Int}
-use Rattle.sqlite_value.specs.declared.keys.Collation.TheVariants.{Binary}
-use Rattle.sqlite_value.specs.Order.{Row, column}
-use Rattle.sqlite_sql.specs.Term.{Term, holds, lit, col, op2}
-use Rattle.sqlite_sql.specs.declared.ops.BinaryOp.TheVariants.{Compare}
+use Rattle.index_sql_schema.proofs.Words.{◌≡◌, ◌==◌, ℕ, suc, ℤ, pos, Bool, true, false, not, [], ◌∷◌, refl, sym, ap, ◌∙◌, int_eq, arith}
+use Rattle.index_sql_schema.proofs.Words.{true≢false, ints, Int, Binary, Row, column, Term, holds, lit, col, op2, Compare, Eq, Ne, id_in}
+use Rattle.index_sql_schema.proofs.Words.{same_int, at_ints, number_in}
+use Rattle.std.proofs.Common.{negsuc}
 use Rattle.sqlite_sql.specs.declared.ops.CompareOp.{CompareOp}
-use Rattle.sqlite_sql.specs.declared.ops.CompareOp.TheVariants.{Eq, Ne}
-use Rattle.sqlite_rules.specs.Edit.{id_in}
-use Rattle.sqlite_keyed.proofs.KeyedLemmas.{same_int}
-use Rattle.sqlite_typed.proofs.TestLemmas.{at_ints}
-use Rattle.index_sql_schema.specs.Records.{number_in}
 use Rattle.index_sql_schema.proofs.KeyLemmas.{IsNumber}
 
 -- a column of the table compared with a number

@@ -1,24 +1,17 @@
 -- SELECT .. ORDER BY a text: what is read of the rows of the answer is in byte order.
-use Rattle.std.proofs.Common.{◌≡◌, ◌+◌, ◌<◌, ℕ, Bool, cond, All, List, [], ◌∷◌, length, map, filter, get_or, refl, sym, ap, ap₂, subst, ◌∙◌}
-use Rattle.std.proofs.Common.{arith, is_lt, IsPermutation, IsSorted}
-use Rattle.std.specs.declared.cmp.Ordering.{Ordering}
-use Rattle.std.specs.declared.cmp.Ordering.TheVariants.{Less, Equal, Greater}
+use Rattle.index_sql_schema.proofs.Words.{◌≡◌, ◌+◌, ℕ, Bool, cond, All, List, [], ◌∷◌, length, map, filter, refl, sym, ap, ap₂, subst, ◌∙◌}
+use Rattle.index_sql_schema.proofs.Words.{arith, IsPermutation, IsSorted, Ordering, Less, Equal, Greater, AllByRecursion, list_all}
+use Rattle.index_sql_schema.proofs.Words.{All-permutation, IsPermutation-map, Null, Text, Binary, Key, Row, Trees, Term, Env, col, eval_all}
+use Rattle.index_sql_schema.proofs.Words.{holds, Join, Output, IsAnswer, matches_as, output_cmp, map-map, all-filter, all_map, Bytes}
+use Rattle.index_sql_schema.proofs.Words.{bytes_cmp}
+use Rattle.std.proofs.Common.{◌<◌, get_or}
+use Rattle.std.proofs.Common.{is_lt}
 use Rattle.std.specs.Ordering.{ordering_then}
-use Rattle.std.specs.List.{AllByRecursion, list_all}
 use Rattle.std.proofs.lemmas.List.{length-map, get_or-map}
 use Rattle.std.proofs.lemmas.List.Elements.{All-from_recursion}
-use Rattle.std.proofs.lemmas.List.Sorted.{All-permutation, IsPermutation-map}
-use Rattle.sqlite_value.specs.declared.value.Value.TheVariants.{Null, Text}
-use Rattle.sqlite_value.specs.declared.keys.Collation.TheVariants.{Binary}
-use Rattle.sqlite_value.specs.declared.keys.Key.{Key}
 use Rattle.sqlite_value.specs.Keys.{ascending}
-use Rattle.sqlite_value.specs.Order.{Row}
 use Rattle.sqlite_value.proofs.OrderLemmas.{value_cmp-Text}
-use Rattle.sqlite_trees.specs.Tree.{Trees}
-use Rattle.sqlite_sql.specs.Term.{Term, Env, col, eval_all, holds}
-use Rattle.sqlite_sql.specs.Query.{Join, Output, IsAnswer, matches_as, key_cmp, output_cmp}
-use Rattle.sqlite_keyed.proofs.ListLemmas.{map-map, all-filter, all_map}
-use Rattle.index_rules.specs.Maps.{Bytes, bytes_cmp}
+use Rattle.sqlite_sql.specs.Query.{key_cmp}
 use Rattle.index_sql_schema.proofs.QueryShapes.{from_with}
 use Rattle.index_sql_schema.proofs.SelectLemmas.{read, shown_of}
 

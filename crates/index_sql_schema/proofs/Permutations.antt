@@ -1,9 +1,8 @@
 -- Lists in another order.
-use Rattle.std.proofs.Common.{◌≡◌, ◌≤◌, Bool, true, false, cond, List, [], ◌∷◌, filter, length, refl, ap, arith, All, IsPermutation}
-use Rattle.std.specs.List.{AllByRecursion}
-use Rattle.std.proofs.lemmas.List.Sorted.{length_permutation, All-permutation}
-use Rattle.sqlite_trees.specs.Tree.{IsAscending}
-use Rattle.sqlite_keyed.proofs.ListLemmas.{all_weaker, filter_none, along_permutation}
+use Rattle.index_sql_schema.proofs.Words.{◌≡◌, ◌≤◌, Bool, true, false, cond, List, [], ◌∷◌, filter, length, refl, ap, arith, All}
+use Rattle.index_sql_schema.proofs.Words.{IsPermutation, AllByRecursion, All-permutation, IsAscending, all_weaker, along_permutation}
+use Rattle.std.proofs.lemmas.List.Sorted.{length_permutation}
+use Rattle.sqlite_keyed.proofs.ListLemmas.{filter_none}
 
 -- a test that passes at most one of two elements passes at most one element
 pub one_passes : {A : Type 0} (R : A → A → Type 0) (p : A → Bool) (xs : List A) → ((a b : A) → R a b → p a ≡ true → p b ≡ false)

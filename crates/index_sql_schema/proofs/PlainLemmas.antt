@@ -1,16 +1,12 @@
 -- A text that is no write with RETURNING under one schema is none under any.
-use Rattle.std.proofs.Common.{◌≡◌, ◌==◌, ◌+◌, ◌∙◌, ap, refl, subst, sym, ℕ, Bool, true, false, true≢false, if◌then◌else◌, List, length}
-use Rattle.std.proofs.Common.{Option, None, Ok, Err}
-use Rattle.sqlite_value.specs.Order.{Row}
-use Rattle.sqlite_trees.specs.Tree.{Trees}
+use Rattle.index_sql_schema.proofs.Words.{◌≡◌, ◌==◌, ◌+◌, ◌∙◌, ap, refl, subst, sym, ℕ, Bool, true, false, true≢false, List, length, Option}
+use Rattle.index_sql_schema.proofs.Words.{None, Ok, Err, Row, Trees, Command, Returning, Schema, Compiled, reads_listing, understood, State}
+use Rattle.index_sql_schema.proofs.Words.{CommitsShowing, IsPlain}
+use Rattle.std.proofs.Common.{if◌then◌else◌}
 use Rattle.sqlite_ast.specs.declared.Shown.{Shown}
 use Rattle.sqlite_ast.specs.declared.Statement.{Statement}
 use Rattle.sqlite_ast.specs.declared.Statement.TheVariants.{Insert, Update, Delete}
 use Rattle.sqlite_syntax.specs.declared.statement.Parsed.{Parsed}
-use Rattle.sqlite_schema.specs.declared.command.Command.{Command}
-use Rattle.sqlite_schema.specs.declared.command.Returning.{Returning}
-use Rattle.sqlite_schema.specs.declared.schema.Schema.{Schema}
-use Rattle.sqlite_resolve.specs.declared.compiled.Compiled.{Compiled}
 use Rattle.sqlite_resolve.specs.declared.error.CompileError.{CompileError}
 use Rattle.sqlite_resolve.specs.Lowering.{Checked, and_then}
 use Rattle.sqlite_resolve.specs.Scope.{Name}
@@ -18,9 +14,7 @@ use Rattle.sqlite_resolve.specs.Body.{table_at}
 use Rattle.sqlite_resolve.specs.Given.{returned}
 use Rattle.sqlite_resolve.specs.Compile.{compiled, command, first, meaning, planned, returning, shows, small, source_of, target, timed}
 use Rattle.sqlite_resolve.specs.Compile.{with_command}
-use Rattle.sqlite.specs.Listing.{if_select, is_select, listing_schema, reads_listing, understood}
-use Rattle.sqlite.specs.State.{State, CommitsShowing}
-use Rattle.sqlite.proofs.Callers.{IsPlain}
+use Rattle.sqlite.specs.Listing.{if_select, is_select, listing_schema}
 
 -- ---- what a statement shows
 

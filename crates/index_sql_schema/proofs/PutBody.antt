@@ -1,37 +1,11 @@
 -- INSERT INTO blobs: the file has these bytes. It had none, for it has one row after that.
-use Rattle.std.proofs.Common.{◌≡◌, ℕ, ℤ, not, false, List, [], ◌∷◌, None, Ok, refl, sym, ap, subst, ◌∙◌, IsPermutation}
-use Rattle.std.specs.Ordering.{eq_by_cmp}
-use Rattle.std.specs.FinMap.{insert}
-use Rattle.std.proofs.lemmas.Cmp.{nat_list_cmp_total, eq_by_cmp_equiv}
-use Rattle.std.proofs.lemmas.List.Sorted.{IsPermutation-sym}
-use Rattle.std.proofs.lemmas.Map.Lookups.{exact_bytes}
-use Rattle.sqlite_tied.specs.Compute.{everything}
-use Rattle.sqlite_value.specs.declared.value.Value.TheVariants.{Null, Int, Text, Blob}
-use Rattle.sqlite_value.specs.Order.{Row}
-use Rattle.sqlite_value.specs.Keys.{joined}
-use Rattle.sqlite_sql.specs.Term.{Term, lit, col}
-use Rattle.sqlite_schema.specs.Names.{same_name}
-use Rattle.sqlite_schema.specs.declared.schema.Keys.TheVariants.{Enforced}
-use Rattle.sqlite_schema.specs.declared.command.Command.{Command}
-use Rattle.sqlite_schema.specs.declared.command.Command.TheVariants.{Insert}
-use Rattle.sqlite_schema.specs.declared.command.Source.TheVariants.{Values}
-use Rattle.sqlite_rules.specs.Action.{Writes, works}
-use Rattle.sqlite_rules.specs.Cast.{cast_row}
-use Rattle.sqlite_rules.specs.Edit.{edit_of, next_rowid, with_rowid}
-use Rattle.sqlite_rules.specs.declared.error.Rowids.TheVariants.{Chosen}
-use Rattle.sqlite_keyed.specs.Lists.{delete_where}
-use Rattle.sqlite_keyed.proofs.ListLemmas.{all_weaker, filter_all}
-use Rattle.sqlite.specs.Does.{Does}
-use Rattle.sqlite.specs.Effect.{value_rows}
-use Rattle.sqlite.specs.Listing.{understood}
-use Rattle.sqlite.specs.Rows.{stamped}
-use Rattle.sqlite.specs.State.{State, Executes, mode_of}
-use Rattle.sqlite.proofs.Callers.{IsPlain, command_of, runs_as, statement_of, one_step}
-use Rattle.index_rules.specs.Maps.{Bytes, bytes_cmp}
-use Rattle.index_sql_schema.specs.Schema.{index_schema, blobs_at}
-use Rattle.index_sql_schema.specs.Records.{body_in, text_key}
-use Rattle.index_sql_schema.specs.Index.{AreRows, IsIndex, Changes}
-use Rattle.index_sql_schema.specs.RecordRows.{IsRecordIn, IsStoredRow}
+use Rattle.index_sql_schema.proofs.Words.{◌≡◌, ℕ, ℤ, not, false, List, [], ◌∷◌, None, Ok, refl, sym, ap, subst, ◌∙◌, IsPermutation}
+use Rattle.index_sql_schema.proofs.Words.{eq_by_cmp, insert, nat_list_cmp_total, eq_by_cmp_equiv, IsPermutation-sym, exact_bytes}
+use Rattle.index_sql_schema.proofs.Words.{everything, Null, Int, Text, Blob, Row, joined, Term, lit, col, same_name, Enforced, Command}
+use Rattle.index_sql_schema.proofs.Words.{Insert, Values, Writes, works, cast_row, edit_of, next_rowid, with_rowid, Chosen, delete_where}
+use Rattle.index_sql_schema.proofs.Words.{all_weaker, filter_all, Does, value_rows, understood, stamped, State, Executes, mode_of, IsPlain}
+use Rattle.index_sql_schema.proofs.Words.{command_of, runs_as, statement_of, one_step, Bytes, bytes_cmp, index_schema, blobs_at, body_in}
+use Rattle.index_sql_schema.proofs.Words.{text_key, AreRows, IsIndex, Changes, IsRecordIn, IsStoredRow}
 use Rattle.index_sql_schema.specs.StatementTexts.{put_body_text}
 use Rattle.index_sql_schema.proofs.Permutations.{all_permutation, ascending_permutation}
 use Rattle.index_sql_schema.proofs.KeyLemmas.{are_rows}

@@ -1,27 +1,8 @@
 -- INSERT INTO files .. ON CONFLICT: the file has this record.
-use Rattle.std.proofs.Common.{◌≡◌, ℕ, ℤ, pos, List, [], ◌∷◌, Ok, refl}
-use Rattle.std.specs.FinMap.{insert}
-use Rattle.sqlite_tied.specs.Compute.{everything}
-use Rattle.sqlite_value.specs.declared.value.Value.TheVariants.{Null, Int, Text, Blob}
-use Rattle.sqlite_value.specs.Order.{Row, column}
-use Rattle.sqlite_value.specs.Keys.{joined}
-use Rattle.sqlite_trees.specs.Tree.{rowid}
-use Rattle.sqlite_sql.specs.Term.{Term, lit, col}
-use Rattle.sqlite_schema.specs.Names.{same_name}
-use Rattle.sqlite_schema.specs.declared.schema.Keys.TheVariants.{Enforced}
-use Rattle.sqlite_schema.specs.declared.command.Command.TheVariants.{InsertOr}
-use Rattle.sqlite_schema.specs.declared.command.Conflict.TheVariants.{Abort}
-use Rattle.sqlite_schema.specs.declared.command.Source.TheVariants.{Values}
-use Rattle.sqlite_rules.specs.Action.{works}
-use Rattle.sqlite_rules.specs.Cast.{cast_row}
-use Rattle.sqlite.specs.Listing.{understood}
-use Rattle.sqlite.specs.State.{State, Executes}
-use Rattle.sqlite.proofs.Callers.{IsPlain, command_of}
-use Rattle.index_rules.specs.Maps.{Bytes}
-use Rattle.index_sql_schema.specs.Schema.{index_schema, files_at}
-use Rattle.index_sql_schema.specs.Records.{file_in}
-use Rattle.index_sql_schema.specs.Index.{rowid_in, IsIndex, Changes}
-use Rattle.index_sql_schema.specs.RecordRows.{IsFiledRow}
+use Rattle.index_sql_schema.proofs.Words.{◌≡◌, ℕ, ℤ, pos, List, [], ◌∷◌, Ok, refl, insert, everything, Null, Int, Text, Blob, Row, column}
+use Rattle.index_sql_schema.proofs.Words.{joined, rowid, Term, lit, col, same_name, Enforced, InsertOr, Abort, Values, works, cast_row}
+use Rattle.index_sql_schema.proofs.Words.{understood, State, Executes, IsPlain, command_of, Bytes, index_schema, files_at, file_in}
+use Rattle.index_sql_schema.proofs.Words.{rowid_in, IsIndex, Changes, IsFiledRow}
 use Rattle.index_sql_schema.specs.StatementTexts.{put_file_text}
 use Rattle.index_sql_schema.proofs.QueryShapes.{on_conflict}
 use Rattle.index_sql_schema.proofs.TableLemmas.{files_keyed, cast_null, cast_int}

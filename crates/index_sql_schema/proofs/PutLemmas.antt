@@ -1,41 +1,13 @@
 -- INSERT .. ON CONFLICT DO UPDATE by the key of a table: the key has this record.
-use Rattle.std.proofs.Common.{◌≡◌, ℕ, ℤ, Bool, true, false, not, ◌||◌, ◌/◌, List, [], ◌∷◌, ◌++◌, length, Some, Ok, refl, sym, ap, ◌∙◌}
-use Rattle.std.proofs.Common.{true≢false}
-use Rattle.std.specs.declared.cmp.Ordering.{Ordering}
-use Rattle.std.specs.declared.cmp.Ordering.TheVariants.{Less, Equal, Greater}
-use Rattle.std.specs.Ordering.{eq_by_cmp, is_eq}
-use Rattle.std.specs.FinMap.{insert}
-use Rattle.std.proofs.lemmas.Cmp.{nat_list_cmp_total}
-use Rattle.std.proofs.lemmas.Map.Lookups.{exact_bytes}
-use Rattle.std.proofs.lemmas.Slice.Eq.{bytes_eq-Decides}
-use Rattle.sqlite_value.specs.declared.value.Value.TheVariants.{Null, Int, Text}
-use Rattle.sqlite_value.specs.Order.{Row, column}
+use Rattle.index_sql_schema.proofs.Words.{◌≡◌, ℕ, ℤ, Bool, true, false, not, ◌||◌, ◌/◌, List, [], ◌∷◌, ◌++◌, length, Some, Ok, refl, sym}
+use Rattle.index_sql_schema.proofs.Words.{ap, ◌∙◌, true≢false, Ordering, Less, Equal, Greater, eq_by_cmp, is_eq, insert, nat_list_cmp_total}
+use Rattle.index_sql_schema.proofs.Words.{exact_bytes, bytes_eq-Decides, Null, Int, Text, Row, column, rowid, Term, col, eval_all, Table}
+use Rattle.index_sql_schema.proofs.Words.{Enforced, InsertOr, Abort, Values, agree, works, conflicts, cast_row, value_rows, shown, stamped}
+use Rattle.index_sql_schema.proofs.Words.{understood, State, Executes, IsPlain, command_of, all_weaker, all_both, all-filter, Bytes}
+use Rattle.index_sql_schema.proofs.Words.{bytes_cmp, pair_cmp, pair_total, exact_pair, map_from, index_schema, text_key, pair_key, rowid_in}
+use Rattle.index_sql_schema.proofs.Words.{HasRowid, IsIndex, IsRecordIn}
 use Rattle.sqlite_value.specs.Keys as keys
-use Rattle.sqlite_trees.specs.Tree.{rowid}
-use Rattle.sqlite_sql.specs.Term.{Term, col, eval_all}
-use Rattle.sqlite_schema.specs.declared.schema.Table.{Table}
-use Rattle.sqlite_schema.specs.declared.schema.Keys.TheVariants.{Enforced}
-use Rattle.sqlite_schema.specs.declared.command.Command.TheVariants.{InsertOr}
-use Rattle.sqlite_schema.specs.declared.command.Conflict.TheVariants.{Abort}
-use Rattle.sqlite_schema.specs.declared.command.Source.TheVariants.{Values}
-use Rattle.sqlite_schema.specs.Rules.{agree}
-use Rattle.sqlite_rules.specs.Action.{works}
-use Rattle.sqlite_rules.specs.Keys.{conflicts}
-use Rattle.sqlite_rules.specs.Cast.{cast_row}
-use Rattle.sqlite.specs.Effect.{value_rows}
-use Rattle.sqlite.specs.Rows.{shown, stamped}
-use Rattle.sqlite.specs.Listing.{understood}
-use Rattle.sqlite.specs.State.{State, Executes}
-use Rattle.sqlite.proofs.Callers.{IsPlain, command_of}
-use Rattle.sqlite_keyed.proofs.ListLemmas.{all_weaker, all_both, all-filter}
-use Rattle.index_rules.specs.Maps.{Bytes, bytes_cmp, pair_cmp}
-use Rattle.index_rules.proofs.OwnerLists.{pair_total, exact_pair}
-use Rattle.index_sql_schema.specs.RowMaps.{map_from}
 use Rattle.index_sql_schema.proofs.Permutations.{all_permutation}
-use Rattle.index_sql_schema.specs.Schema.{index_schema}
-use Rattle.index_sql_schema.specs.Records.{text_key, pair_key}
-use Rattle.index_sql_schema.specs.Index.{rowid_in, HasRowid, IsIndex}
-use Rattle.index_sql_schema.specs.RecordRows.{IsRecordIn}
 use Rattle.index_sql_schema.proofs.QueryShapes.{on_conflict}
 use Rattle.index_sql_schema.proofs.EditLemmas.{as_int, Alters, altered}
 use Rattle.index_sql_schema.proofs.KeyLemmas.{IsText, IsPair, agree_texts, agree_pairs, are_rows}

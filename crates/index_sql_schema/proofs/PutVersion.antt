@@ -1,28 +1,11 @@
 -- INSERT INTO meta: the row of the version.
-use Rattle.std.proofs.Common.{◌≡◌, ℕ, pos, true, List, [], ◌∷◌, codes, None, Ok, refl, sym, ap, subst, ◌∙◌}
-use Rattle.sqlite_tied.specs.Compute.{everything}
-use Rattle.sqlite_value.specs.declared.value.Value.TheVariants.{Null, Int, Text}
-use Rattle.sqlite_sql.specs.Term.{Term, col, lit}
-use Rattle.sqlite_schema.specs.declared.schema.Keys.TheVariants.{Enforced}
-use Rattle.sqlite_schema.specs.declared.command.Source.TheVariants.{Values}
-use Rattle.sqlite_rules.specs.Cast.{cast_row}
-use Rattle.sqlite.specs.Listing.{understood}
-use Rattle.sqlite.specs.State.{State, Executes}
-use Rattle.sqlite.proofs.Callers.{IsPlain, command_of}
-use Rattle.index_sql_schema.specs.Schema.{index_schema}
-use Rattle.index_sql_schema.specs.Index.{IsIndex, Rewrites, version_row, with_version}
+use Rattle.index_sql_schema.proofs.Words.{◌≡◌, ℕ, pos, true, List, [], ◌∷◌, codes, None, Ok, refl, sym, ap, subst, ◌∙◌, everything, Null}
+use Rattle.index_sql_schema.proofs.Words.{Int, Text, Term, col, lit, Enforced, Values, cast_row, understood, State, Executes, IsPlain}
+use Rattle.index_sql_schema.proofs.Words.{command_of, index_schema, IsIndex, Rewrites, Insert, Does, mode_of, runs_as, statement_of}
+use Rattle.index_sql_schema.proofs.Words.{one_step, edit_of, put_all, with_rowid, are_fresh, AreRows, IsRecordIn, all_of, Chosen, meta_at}
+use Rattle.index_sql_schema.specs.Index.{version_row, with_version}
 use Rattle.index_sql_schema.proofs.KeyLemmas.{are_rows}
 use Rattle.index_sql_schema.proofs.TableLemmas.{cast_null, cast_int}
-use Rattle.sqlite_schema.specs.declared.command.Command.TheVariants.{Insert}
-use Rattle.sqlite.specs.Does.{Does}
-use Rattle.sqlite.specs.State.{mode_of}
-use Rattle.sqlite.proofs.Callers.{runs_as, statement_of, one_step}
-use Rattle.sqlite_rules.specs.Edit.{edit_of, put_all, with_rowid, are_fresh}
-use Rattle.index_sql_schema.specs.Index.{AreRows}
-use Rattle.index_sql_schema.specs.RecordRows.{IsRecordIn}
-use Rattle.sqlite_keyed.proofs.ListLemmas.{all_of}
-use Rattle.sqlite_rules.specs.declared.error.Rowids.TheVariants.{Chosen}
-use Rattle.index_sql_schema.specs.Schema.{meta_at}
 use Rattle.index_sql_schema.proofs.EditLemmas.{put_all_fresh, numbered_after, altered}
 use Rattle.index_sql_schema.proofs.StatementLemmas.{insert_edit}
 use Rattle.index_sql_schema.proofs.AfterLemmas.{meta_change}

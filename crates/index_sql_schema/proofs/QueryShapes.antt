@@ -1,14 +1,8 @@
 -- The shapes of what the statements are compiled to.
 use Rattle.std.specs.Prelude.{ℕ, List, [], ◌∷◌, None, Some, false, pos, negsuc}
 use Rattle.sqlite.specs.declared.types.Value.TheVariants.{Int}
-use Rattle.sqlite_value.specs.declared.keys.Collation.TheVariants.{Binary}
-use Rattle.sqlite_value.specs.declared.keys.Key.{Key}
-use Rattle.sqlite_sql.specs.Term.{Term, lit, col, op2}
-use Rattle.sqlite_sql.specs.declared.ops.BinaryOp.TheVariants.{Compare}
-use Rattle.sqlite_sql.specs.declared.ops.CompareOp.TheVariants.{Eq}
-use Rattle.sqlite_sql.specs.Query.{Query, Join, inner, end}
-use Rattle.sqlite_schema.specs.declared.program.Program.{Program}
-use Rattle.sqlite_schema.specs.declared.command.Upsert.{Upsert}
+use Rattle.index_sql_schema.proofs.Words.{Binary, Key, Term, lit, col, op2, Compare, Eq, Join, inner, end, Program, Upsert}
+use Rattle.sqlite_sql.specs.Query.{Query}
 
 -- a place of the row equals a parameter
 abbrev pub is_param : ℕ → ℕ → Term

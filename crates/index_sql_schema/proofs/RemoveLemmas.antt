@@ -1,23 +1,11 @@
 -- What the removal of a name sets off.
-use Rattle.std.proofs.Common.{◌≡◌, Bool, true, List, [], ◌∷◌, ◌++◌, refl, sym, ap, subst, ◌∙◌}
-use Rattle.sqlite_value.specs.Order.{Row}
-use Rattle.sqlite_value.specs.Keys.{plain, joined}
-use Rattle.sqlite_schema.specs.Names.{same_name}
-use Rattle.sqlite_schema.specs.declared.schema.Keys.TheVariants.{Enforced}
-use Rattle.sqlite_rules.specs.Action.{Work, works, loses}
-use Rattle.index_sql_schema.specs.Schema.{index_schema, owners_at, yanks_at, cases_at, cascades_to}
-use Rattle.std.proofs.Common.{ℕ, zero, suc, Ok}
-use Rattle.std.specs.List.{list_any}
-use Rattle.sqlite_trees.specs.Tree.{Trees}
-use Rattle.sqlite_schema.specs.declared.schema.Table.{Table}
-use Rattle.sqlite_rules.specs.Action.{Leads, Acts, is_child_of}
-use Rattle.std.proofs.Common.{subst₂, arith}
-use Rattle.sqlite_keyed.specs.Lists.{delete_where}
+use Rattle.index_sql_schema.proofs.Words.{◌≡◌, Bool, true, List, [], ◌∷◌, ◌++◌, refl, sym, ap, subst, ◌∙◌, Row, plain, joined, same_name}
+use Rattle.index_sql_schema.proofs.Words.{Enforced, Work, works, loses, index_schema, owners_at, yanks_at, cases_at, ℕ, zero, suc, Ok}
+use Rattle.index_sql_schema.proofs.Words.{list_any, Trees, Table, Leads, Acts, is_child_of, subst₂, arith, delete_where, AreRows, Reference}
+use Rattle.index_sql_schema.specs.Schema.{cascades_to}
 use Rattle.index_sql_schema.proofs.EditLemmas.{KeepsOthers}
-use Rattle.index_sql_schema.specs.Index.{AreRows}
 use Rattle.index_sql_schema.proofs.CascadeLemmas.{deleting, cascades}
 use Rattle.std.specs.Prelude.{codes}
-use Rattle.sqlite_schema.specs.declared.schema.Reference.{Reference}
 
 abbrev pub to_names : Reference
 to_names = cascades_to 1 (codes "names") (codes "name")

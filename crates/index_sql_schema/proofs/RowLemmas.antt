@@ -1,23 +1,16 @@
 -- The map that rows stand for, by their keys, and after the rows were written.
-use Rattle.std.proofs.Common.{◌≡◌, ◌≤◌, Bool, true, false, cond, not, ◌&&◌, ◌||◌, List, [], ◌∷◌, ◌++◌, map, filter, find, length, slice_get}
-use Rattle.std.proofs.Common.{refl, sym, ap, ◌∙◌, Some, None, option_map, IsPermutation}
-use Rattle.std.specs.List.{AllByRecursion, list_any}
+use Rattle.index_sql_schema.proofs.Words.{◌≡◌, ◌≤◌, Bool, true, false, cond, not, ◌&&◌, ◌||◌, List, [], ◌∷◌, ◌++◌, map, filter, find}
+use Rattle.index_sql_schema.proofs.Words.{length, slice_get, refl, sym, ap, ◌∙◌, Some, None, option_map, IsPermutation, AllByRecursion}
+use Rattle.index_sql_schema.proofs.Words.{list_any, Ordering, eq_by_cmp, IsTotalOrder, IsAntisymmetric, get, insert, remove, retain_keys}
+use Rattle.index_sql_schema.proofs.Words.{get-retain_keys, same_map, eq_by_cmp_equiv, nat_list_cmp_total, IsPermutation-refl}
+use Rattle.index_sql_schema.proofs.Words.{IsPermutation-cons, IsPermutation-trans, IsPermutation-middle, exact_bytes, IsAscending}
+use Rattle.index_sql_schema.proofs.Words.{update_where, delete_where, filter-map, slice_get-filter, IsPermutation-filter, Bytes, bytes_cmp}
+use Rattle.index_sql_schema.proofs.Words.{change_values, map_from}
 use Rattle.std.specs.Option.{option_map_or}
-use Rattle.std.specs.declared.cmp.Ordering.{Ordering}
-use Rattle.std.specs.Ordering.{eq_by_cmp}
-use Rattle.std.specs.Cmp.{IsTotalOrder}
-use Rattle.std.specs.FinMap.{IsAntisymmetric, get, insert, remove, retain_keys, get-from_entries, get-retain_keys, same_map}
+use Rattle.std.specs.FinMap.{get-from_entries}
 use Rattle.std.specs.FinMap as fin
 use Rattle.std.specs.FinMap.Entries.{find-where_key}
-use Rattle.std.proofs.lemmas.Cmp.{eq_by_cmp_equiv, nat_list_cmp_total}
-use Rattle.std.proofs.lemmas.List.Sorted.{IsPermutation-refl, IsPermutation-cons, IsPermutation-trans, IsPermutation-middle}
-use Rattle.std.proofs.lemmas.Map.Lookups.{exact_bytes}
-use Rattle.sqlite_trees.specs.Tree.{IsAscending}
-use Rattle.sqlite_keyed.specs.Lists.{update_where, delete_where}
-use Rattle.sqlite_keyed.proofs.ListLemmas.{filter-map, slice_get-filter, IsPermutation-filter}
-use Rattle.index_rules.specs.Maps.{Bytes, bytes_cmp, change_values}
 use Rattle.index_rules.proofs.KeyLemmas.{get-change_values}
-use Rattle.index_sql_schema.specs.RowMaps.{map_from}
 use Rattle.index_sql_schema.proofs.MapLemmas.{insert-remove, retain_keys-other}
 use Rattle.index_sql_schema.proofs.Permutations.{one_passes, short_permutation}
 

@@ -1,21 +1,10 @@
 -- SELECT FROM bans: whether the file is banned.
-use Rattle.std.proofs.Common.{◌≡◌, ℕ, List, [], ◌∷◌, codes, slice_get, option_map, refl, arith}
-use Rattle.std.specs.FinMap.{get}
-use Rattle.sqlite_tied.specs.Compute.{everything}
-use Rattle.sqlite_value.specs.declared.value.Value.TheVariants.{Text}
-use Rattle.sqlite_value.specs.Order.{Row}
-use Rattle.sqlite_sql.specs.Term.{Term, col}
-use Rattle.sqlite.specs.Listing.{understood}
-use Rattle.sqlite.specs.State.{State, Shown}
-use Rattle.index_rules.specs.Maps.{Bytes}
-use Rattle.index_sql_schema.specs.Schema.{bans_at}
-use Rattle.index_sql_schema.specs.Records.{nothing_in, tables_in}
-use Rattle.index_sql_schema.specs.Index.{IsIndex}
+use Rattle.index_sql_schema.proofs.Words.{◌≡◌, ℕ, List, [], ◌∷◌, codes, slice_get, option_map, refl, arith, get, everything, Text, Row}
+use Rattle.index_sql_schema.proofs.Words.{Term, col, understood, State, Shown, Bytes, bans_at, nothing_in, tables_in, IsIndex, IsSure}
 use Rattle.index_sql_schema.specs.StatementTexts.{select_ban_text}
 use Rattle.index_sql_schema.proofs.QueryShapes.{is_param}
 use Rattle.index_sql_schema.proofs.TableLemmas.{bans_keyed}
 use Rattle.index_sql_schema.proofs.LookupLemmas.{Selects, selects_text}
-use Rattle.index_sql_schema.specs.Sure.{IsSure}
 use Rattle.index_sql_schema.proofs.SureLemmas.{readable_one}
 
 abbrev project : List Term

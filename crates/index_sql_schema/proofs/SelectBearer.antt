@@ -1,28 +1,11 @@
 -- SELECT FROM users by the token: who bears it.
-use Rattle.std.proofs.Common.{◌≡◌, Bool, true, false, List, [], ◌∷◌, codes, map, filter, slice_get, option_map, inl, refl, sym, subst, ◌∙◌}
-use Rattle.std.proofs.Common.{IsPermutation, arith}
-use Rattle.std.specs.List.{list_all}
-use Rattle.std.proofs.lemmas.Cmp.{nat_list_cmp_total}
-use Rattle.std.proofs.lemmas.List.Sorted.{IsPermutation-sym}
-use Rattle.std.proofs.lemmas.Map.Lookups.{exact_bytes}
-use Rattle.sqlite_tied.specs.Compute.{everything}
-use Rattle.sqlite_value.specs.declared.value.Value.TheVariants.{Null, Blob}
-use Rattle.sqlite_value.specs.Order.{Row, column, bytes}
-use Rattle.sqlite_sql.specs.Term.{Term, col, eval_all, holds}
-use Rattle.sqlite_rules.specs.Lists.{Has}
-use Rattle.sqlite.specs.Listing.{understood}
-use Rattle.sqlite.specs.State.{State, Shown}
-use Rattle.sqlite.proofs.Callers.{reads_as}
-use Rattle.sqlite.specs.Effect.{Database}
-use Rattle.sqlite_keyed.proofs.ListLemmas.{all_weaker}
-use Rattle.sqlite_typed.proofs.TestLemmas.{last_term}
-use Rattle.index_rules.specs.declared.records.UserRecord.{UserRecord}
-use Rattle.index_rules.specs.Maps.{Bytes, same}
+use Rattle.index_sql_schema.proofs.Words.{◌≡◌, Bool, true, false, List, [], ◌∷◌, codes, map, filter, slice_get, option_map, inl, refl, sym}
+use Rattle.index_sql_schema.proofs.Words.{subst, ◌∙◌, IsPermutation, arith, list_all, nat_list_cmp_total, IsPermutation-sym, exact_bytes}
+use Rattle.index_sql_schema.proofs.Words.{everything, Null, Blob, Row, column, bytes, Term, col, eval_all, holds, Has, understood, State}
+use Rattle.index_sql_schema.proofs.Words.{Shown, reads_as, Database, all_weaker, last_term, UserRecord, Bytes, same, index_schema, users_at}
+use Rattle.index_sql_schema.proofs.Words.{text_key, user_in, tables_in, IsIndex, AllByRecursion, IsAccountRow, IsSure}
 use Rattle.index_rules.specs.Facts.{IsBearer}
-use Rattle.index_sql_schema.specs.Schema.{index_schema, users_at}
-use Rattle.index_sql_schema.specs.Records.{text_key, user_in, tables_in}
 use Rattle.index_sql_schema.specs.ShownRows.{account_in}
-use Rattle.index_sql_schema.specs.Index.{IsIndex}
 use Rattle.index_sql_schema.specs.StatementTexts.{select_bearer_text}
 use Rattle.index_sql_schema.proofs.QueryShapes.{is_param}
 use Rattle.index_sql_schema.proofs.EditLemmas.{has_all, has_filter, has_permutation, filter_passes}
@@ -31,9 +14,6 @@ use Rattle.index_sql_schema.proofs.KeyedLemmas.{row_at_key, get_row}
 use Rattle.index_sql_schema.proofs.TableLemmas.{users_keyed, same-turned}
 use Rattle.index_sql_schema.proofs.LookupLemmas.{Selects, first_shown, shown_all}
 use Rattle.index_sql_schema.proofs.WriteLemmas.{answered}
-use Rattle.std.specs.List.{AllByRecursion}
-use Rattle.index_sql_schema.specs.RecordRows.{IsAccountRow}
-use Rattle.index_sql_schema.specs.Sure.{IsSure}
 use Rattle.index_sql_schema.proofs.SureLemmas.{readable_one}
 use Rattle.index_sql_schema.proofs.ShownRecords.{account_shown}
 

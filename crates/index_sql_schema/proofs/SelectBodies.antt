@@ -1,29 +1,12 @@
 -- SELECT FROM blobs .. ORDER BY file: what is stored for each file, in byte order.
-use Rattle.std.proofs.Common.{◌≡◌, Bool, true, false, ℕ, List, [], ◌∷◌, codes, map, refl, sym, ap, subst, ◌∙◌, IsPermutation, arith}
-use Rattle.std.specs.FinMap.{entries}
-use Rattle.std.specs.List.{AllByRecursion}
-use Rattle.std.proofs.lemmas.Cmp.{nat_list_cmp_total}
-use Rattle.std.proofs.lemmas.Map.Lookups.{exact_bytes}
-use Rattle.sqlite_tied.specs.Compute.{everything}
-use Rattle.sqlite_value.specs.declared.value.Value.TheVariants.{Null, Text}
-use Rattle.sqlite_value.specs.Order.{Row}
-use Rattle.sqlite_sql.specs.Term.{Term, col, eval_all}
-use Rattle.sqlite_sql.specs.Query.{end}
-use Rattle.sqlite_sql.specs.Program.{overlay}
-use Rattle.sqlite_schema.specs.declared.command.Command.TheVariants.{Select}
-use Rattle.sqlite.specs.Listing.{understood, reads_listing}
-use Rattle.sqlite.specs.State.{State, Shown}
-use Rattle.sqlite.proofs.Callers.{IsPlain, command_of, reads_as}
-use Rattle.sqlite_keyed.proofs.ListLemmas.{all_weaker, all_of, map-map, filter-map, filter_all}
-use Rattle.index_rules.specs.Maps.{Bytes}
+use Rattle.index_sql_schema.proofs.Words.{◌≡◌, Bool, true, false, ℕ, List, [], ◌∷◌, codes, map, refl, sym, ap, subst, ◌∙◌, IsPermutation}
+use Rattle.index_sql_schema.proofs.Words.{arith, entries, AllByRecursion, nat_list_cmp_total, exact_bytes, everything, Null, Text, Row}
+use Rattle.index_sql_schema.proofs.Words.{Term, col, eval_all, end, overlay, Select, understood, reads_listing, State, Shown, IsPlain}
+use Rattle.index_sql_schema.proofs.Words.{command_of, reads_as, all_weaker, all_of, map-map, filter-map, filter_all, Bytes, index_schema}
+use Rattle.index_sql_schema.proofs.Words.{tables_in, text_key, body_in, AreRecords, IsStoredRow, IsIndex, IsSure}
 use Rattle.index_sql_schema.proofs.EntryLemmas.{sorted_entries}
-use Rattle.index_sql_schema.specs.Schema.{index_schema}
-use Rattle.index_sql_schema.specs.Records.{tables_in, text_key, body_in}
-use Rattle.index_sql_schema.specs.RecordRows.{AreRecords, IsStoredRow}
 use Rattle.index_sql_schema.specs.ShownRows.{stored_in}
-use Rattle.index_sql_schema.specs.Index.{IsIndex}
 use Rattle.index_sql_schema.specs.StatementTexts.{select_bodies_text}
-use Rattle.index_sql_schema.specs.Sure.{IsSure}
 use Rattle.index_sql_schema.proofs.SelectLemmas.{read_all}
 use Rattle.index_sql_schema.proofs.ShownRecords.{known_records}
 use Rattle.index_sql_schema.proofs.SureLemmas.{readable_one}

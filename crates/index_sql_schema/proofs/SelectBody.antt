@@ -1,23 +1,12 @@
 -- SELECT FROM blobs: the bytes of the file.
-use Rattle.std.proofs.Common.{◌≡◌, ℕ, List, [], ◌∷◌, codes, slice_get, option_map, refl, arith}
-use Rattle.std.specs.FinMap.{get}
-use Rattle.sqlite_tied.specs.Compute.{everything}
-use Rattle.sqlite_value.specs.declared.value.Value.TheVariants.{Text}
-use Rattle.sqlite_value.specs.Order.{Row}
-use Rattle.sqlite_sql.specs.Term.{Term, col}
-use Rattle.sqlite.specs.Listing.{understood}
-use Rattle.sqlite.specs.State.{State, Shown}
-use Rattle.index_rules.specs.Maps.{Bytes}
-use Rattle.index_sql_schema.specs.Schema.{blobs_at}
-use Rattle.index_sql_schema.specs.Records.{body_in, tables_in}
-use Rattle.index_sql_schema.specs.Index.{IsIndex}
+use Rattle.index_sql_schema.proofs.Words.{◌≡◌, ℕ, List, [], ◌∷◌, codes, slice_get, option_map, refl, arith, get, everything, Text, Row}
+use Rattle.index_sql_schema.proofs.Words.{Term, col, understood, State, Shown, Bytes, blobs_at, body_in, tables_in, IsIndex, AllByRecursion}
+use Rattle.index_sql_schema.proofs.Words.{IsStoredRow, IsSure}
 use Rattle.index_sql_schema.specs.StatementTexts.{select_body_text}
 use Rattle.index_sql_schema.proofs.QueryShapes.{is_param}
 use Rattle.index_sql_schema.proofs.TableLemmas.{blobs_keyed}
 use Rattle.index_sql_schema.proofs.LookupLemmas.{Selects, selects_text, shows_text}
-use Rattle.std.specs.List.{AllByRecursion}
-use Rattle.index_sql_schema.specs.RecordRows.{IsStoredRow, IsBodyRow}
-use Rattle.index_sql_schema.specs.Sure.{IsSure}
+use Rattle.index_sql_schema.specs.RecordRows.{IsBodyRow}
 use Rattle.index_sql_schema.proofs.SureLemmas.{readable_one}
 
 abbrev project : List Term

@@ -1,47 +1,25 @@
 -- SELECT FROM files .. LEFT JOIN yanks .. ORDER BY file: the undeleted files of a name with their yanks, in byte order.
-use Rattle.std.proofs.Common.{◌≡◌, ◌≤◌, Bool, true, false, ◌&&◌, cond, ℕ, List, [], ◌∷◌, append-nil, codes, filter, find, flat_map, map}
-use Rattle.std.proofs.Common.{length, slice_get, Option, Some, None, option_map, unwrap_or, refl, sym, ap, ap₂, subst, ◌∙◌, arith}
-use Rattle.std.proofs.Common.{IsPermutation, inl, inr}
-use Rattle.std.specs.List.{AllByRecursion, list_all}
-use Rattle.std.specs.Ordering.{eq_by_cmp}
-use Rattle.std.proofs.lemmas.Cmp.{nat_list_cmp_total}
-use Rattle.std.proofs.lemmas.Map.Lookups.{exact_bytes}
-use Rattle.std.proofs.lemmas.Slice.Eq.{bytes_eq-Decides}
-use Rattle.sqlite_tied.specs.Compute.{everything}
-use Rattle.sqlite_value.specs.declared.value.Value.TheVariants.{Null, Text}
-use Rattle.sqlite_value.specs.declared.keys.Collation.TheVariants.{Binary}
-use Rattle.sqlite_value.specs.Order.{Row, column, bytes}
-use Rattle.sqlite_trees.specs.Tree.{Trees}
-use Rattle.sqlite_sql.specs.Term.{Term, Env, col, op2, eval_all, holds}
-use Rattle.sqlite_sql.specs.declared.ops.BinaryOp.TheVariants.{Compare}
-use Rattle.sqlite_sql.specs.declared.ops.CompareOp.TheVariants.{Eq}
-use Rattle.sqlite_sql.specs.Query.{Join, IsAnswer, left, end, or_nulls, matches_as}
-use Rattle.sqlite_sql.specs.Program.{overlay}
-use Rattle.sqlite_schema.specs.declared.command.Command.TheVariants.{Select}
-use Rattle.sqlite_rules.specs.Lists.{Has}
-use Rattle.sqlite.specs.Effect.{Database}
-use Rattle.sqlite.specs.Listing.{understood, reads_listing}
-use Rattle.sqlite.specs.State.{State, Shown}
-use Rattle.sqlite.proofs.Callers.{IsPlain, command_of, reads_as}
-use Rattle.sqlite_keyed.proofs.ListLemmas.{all_weaker, all_both, map-map, filter-map, slice_get-filter}
-use Rattle.sqlite_typed.proofs.TestLemmas.{at_texts, last_term}
-use Rattle.std.proofs.lemmas.Map.Text.{is_eq-slice_cmp}
+use Rattle.index_sql_schema.proofs.Words.{◌≡◌, ◌≤◌, Bool, true, false, ◌&&◌, cond, ℕ, List, [], ◌∷◌, append-nil, codes, filter, find}
+use Rattle.index_sql_schema.proofs.Words.{flat_map, map, length, slice_get, Option, Some, None, option_map, refl, sym, ap, ap₂, subst, ◌∙◌}
+use Rattle.index_sql_schema.proofs.Words.{arith, IsPermutation, inl, inr, AllByRecursion, list_all, eq_by_cmp, nat_list_cmp_total}
+use Rattle.index_sql_schema.proofs.Words.{exact_bytes, bytes_eq-Decides, everything, Null, Text, Binary, Row, column, bytes, Trees, Term}
+use Rattle.index_sql_schema.proofs.Words.{Env, col, op2, eval_all, holds, Compare, Eq, Join, IsAnswer, left, end, matches_as, overlay}
+use Rattle.index_sql_schema.proofs.Words.{Select, Has, Database, understood, reads_listing, State, Shown, IsPlain, command_of, reads_as}
+use Rattle.index_sql_schema.proofs.Words.{all_weaker, all_both, map-map, filter-map, slice_get-filter, at_texts, last_term, is_eq-slice_cmp}
+use Rattle.index_sql_schema.proofs.Words.{Bytes, same, pair_cmp, Tables, pair_total, exact_pair, index_schema, files_at, yanks_at}
+use Rattle.index_sql_schema.proofs.Words.{tables_in, text_key, pair_key, file_in, reason_in, IsIndex, IsSure, IsFiledRow, IsYankedRow}
+use Rattle.std.proofs.Common.{unwrap_or}
+use Rattle.sqlite_sql.specs.Query.{or_nulls}
 use Rattle.index_rules.specs.declared.rows.FileRow.{FileRow}
-use Rattle.index_rules.specs.Maps.{Bytes, same, pair_cmp}
 use Rattle.index_rules.specs.Facts.{yank_in}
 use Rattle.index_rules.specs.Sound.{is_undeleted_of}
-use Rattle.index_rules.specs.Tables.{Tables}
 use Rattle.index_rules.specs.TableRows.{file_row_in, file_rows_in}
-use Rattle.index_rules.proofs.OwnerLists.{pair_total, exact_pair}
 use Rattle.index_sql_schema.proofs.EntryLemmas.{sorted_entries}
 use Rattle.index_sql_schema.proofs.RowLemmas.{get-map_from}
-use Rattle.index_sql_schema.specs.Schema.{index_schema, files_at, yanks_at}
-use Rattle.index_sql_schema.specs.Records.{tables_in, text_key, pair_key, file_in, reason_in, text_if_any}
+use Rattle.index_sql_schema.specs.Records.{text_if_any}
 use Rattle.index_sql_schema.specs.ShownRows.{file_row_shown}
-use Rattle.index_sql_schema.specs.Index.{IsIndex}
 use Rattle.index_sql_schema.specs.StatementTexts.{select_files_text}
-use Rattle.index_sql_schema.specs.Sure.{IsSure}
-use Rattle.index_sql_schema.specs.RecordRows.{IsFiledRow, IsYankedRow, IsListedRow, IsTextIfAny}
+use Rattle.index_sql_schema.specs.RecordRows.{IsListedRow, IsTextIfAny}
 use Rattle.index_sql_schema.proofs.SelectLemmas.{read_all}
 use Rattle.index_sql_schema.proofs.SureLemmas.{readable_left}
 use Rattle.index_sql_schema.proofs.QueryShapes.{plan, from_with, is_param}

@@ -1,14 +1,9 @@
 -- What a query over one table shows, by the rows of the table.
-use Rattle.std.proofs.Common.{◌≡◌, ℕ, Bool, true, false, cond, List, [], ◌∷◌, ◌++◌, map, filter, flat_map, refl, sym, ap, subst, ◌∙◌}
-use Rattle.std.specs.List.{list_all, AllByRecursion}
+use Rattle.index_sql_schema.proofs.Words.{◌≡◌, ℕ, Bool, true, false, cond, List, [], ◌∷◌, ◌++◌, map, filter, flat_map, refl, sym, ap, subst}
+use Rattle.index_sql_schema.proofs.Words.{◌∙◌, list_all, AllByRecursion, Null, Row, Key, Trees, Term, Env, holds, eval_all, Join, inner}
+use Rattle.index_sql_schema.proofs.Words.{matches_as, IsAnswer, output_cmp, Output, map-map, all_map, all_weaker, all-filter}
 use Rattle.std.specs.List.Sorted.{IsPermutation, IsSorted}
-use Rattle.sqlite_value.specs.declared.value.Value.TheVariants.{Null}
-use Rattle.sqlite_value.specs.Order.{Row}
-use Rattle.sqlite_value.specs.declared.keys.Key.{Key}
-use Rattle.sqlite_trees.specs.Tree.{Trees}
-use Rattle.sqlite_sql.specs.Term.{Term, Env, holds, eval_all}
-use Rattle.sqlite_sql.specs.Query.{Join, inner, matches_as, IsAnswer, output, output_cmp, Output}
-use Rattle.sqlite_keyed.proofs.ListLemmas.{map-map, all_map, all_weaker, all-filter}
+use Rattle.sqlite_sql.specs.Query.{output}
 use Rattle.index_sql_schema.proofs.Permutations.{all_permutation}
 use Rattle.index_sql_schema.proofs.QueryShapes.{from_with}
 

@@ -1,23 +1,11 @@
 -- SELECT FROM names by the name: its record.
-use Rattle.std.proofs.Common.{◌≡◌, ℕ, List, [], ◌∷◌, codes, slice_get, option_map, refl, arith}
-use Rattle.std.specs.FinMap.{get}
-use Rattle.sqlite_tied.specs.Compute.{everything}
-use Rattle.sqlite_value.specs.declared.value.Value.TheVariants.{Text}
-use Rattle.sqlite_value.specs.Order.{Row}
-use Rattle.sqlite_sql.specs.Term.{Term, col}
-use Rattle.sqlite.specs.Listing.{understood}
-use Rattle.sqlite.specs.State.{State, Shown}
-use Rattle.index_rules.specs.Maps.{Bytes}
-use Rattle.index_sql_schema.specs.Schema.{names_at}
-use Rattle.index_sql_schema.specs.Records.{name_in, tables_in}
-use Rattle.index_sql_schema.specs.Index.{IsIndex}
+use Rattle.index_sql_schema.proofs.Words.{◌≡◌, ℕ, List, [], ◌∷◌, codes, slice_get, option_map, refl, arith, get, everything, Text, Row}
+use Rattle.index_sql_schema.proofs.Words.{Term, col, understood, State, Shown, Bytes, names_at, name_in, tables_in, IsIndex, AllByRecursion}
+use Rattle.index_sql_schema.proofs.Words.{IsNamedRow, IsNameRow, IsSure}
 use Rattle.index_sql_schema.specs.StatementTexts.{select_name_text}
 use Rattle.index_sql_schema.proofs.QueryShapes.{is_param}
 use Rattle.index_sql_schema.proofs.TableLemmas.{names_keyed}
 use Rattle.index_sql_schema.proofs.LookupLemmas.{Selects, selects_text, shows_text}
-use Rattle.std.specs.List.{AllByRecursion}
-use Rattle.index_sql_schema.specs.RecordRows.{IsNamedRow, IsNameRow}
-use Rattle.index_sql_schema.specs.Sure.{IsSure}
 use Rattle.index_sql_schema.proofs.SureLemmas.{readable_one}
 use Rattle.index_sql_schema.proofs.ShownRecords.{name_shown}
 

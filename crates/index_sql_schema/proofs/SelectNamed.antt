@@ -1,34 +1,17 @@
 -- SELECT file FROM files by name: the files of the name, the deleted ones too.
-use Rattle.std.proofs.Common.{◌≡◌, arith, IsPermutation, Bool, true, false, ◌&&◌, ◌||◌, cond, List, [], ◌∷◌, codes, filter, map, refl, sym}
-use Rattle.std.proofs.Common.{ap, ap₂, ◌∙◌}
-use Rattle.std.specs.List.{AllByRecursion, list_all, list_any}
-use Rattle.std.proofs.lemmas.Cmp.{nat_list_cmp_total}
-use Rattle.std.proofs.lemmas.List.Sorted.{list_any-IsPermutation}
-use Rattle.std.proofs.lemmas.Map.Lookups.{exact_bytes}
-use Rattle.std.proofs.lemmas.Map.Text.{is_eq-slice_cmp}
-use Rattle.sqlite_tied.specs.Compute.{everything}
-use Rattle.sqlite_value.specs.declared.value.Value.TheVariants.{Null, Text}
-use Rattle.sqlite_value.specs.Order.{Row, column, bytes}
-use Rattle.sqlite_sql.specs.Term.{Term, col, eval_all, holds}
-use Rattle.sqlite.specs.Listing.{understood}
-use Rattle.sqlite.specs.State.{State, Shown}
-use Rattle.sqlite.proofs.Callers.{IsPlain, reads_as}
-use Rattle.sqlite_keyed.proofs.ListLemmas.{all_weaker}
-use Rattle.sqlite_typed.proofs.TestLemmas.{last_term}
-use Rattle.index_rules.specs.declared.records.FileRecord.{FileRecord}
+use Rattle.index_sql_schema.proofs.Words.{◌≡◌, arith, IsPermutation, Bool, true, false, ◌&&◌, ◌||◌, cond, List, [], ◌∷◌, codes, filter, map}
+use Rattle.index_sql_schema.proofs.Words.{refl, sym, ap, ap₂, ◌∙◌, AllByRecursion, list_all, list_any, nat_list_cmp_total}
+use Rattle.index_sql_schema.proofs.Words.{list_any-IsPermutation, exact_bytes, is_eq-slice_cmp, everything, Null, Text, Row, column, bytes}
+use Rattle.index_sql_schema.proofs.Words.{Term, col, eval_all, holds, understood, State, Shown, IsPlain, reads_as, all_weaker, last_term}
+use Rattle.index_sql_schema.proofs.Words.{FileRecord, Bytes, same, index_schema, files_at, text_key, file_in, tables_in, IsIndex, IsSure}
 use Rattle.index_rules.specs.Effect.{is_file_of}
-use Rattle.index_rules.specs.Maps.{Bytes, same}
 use Rattle.index_sql_schema.proofs.RowLemmas.{any_at}
-use Rattle.index_sql_schema.specs.Schema.{index_schema, files_at}
-use Rattle.index_sql_schema.specs.Records.{text_key, file_in, tables_in}
 use Rattle.index_sql_schema.specs.ShownRows.{file_shown}
-use Rattle.index_sql_schema.specs.Index.{IsIndex}
 use Rattle.index_sql_schema.specs.StatementTexts.{select_named_text}
 use Rattle.index_sql_schema.proofs.QueryShapes.{is_param}
 use Rattle.index_sql_schema.proofs.KeyLemmas.{IsText, texts, text_test}
 use Rattle.index_sql_schema.proofs.TableLemmas.{same-turned, files_keyed}
 use Rattle.index_sql_schema.proofs.LookupLemmas.{Selects, shown_all}
-use Rattle.index_sql_schema.specs.Sure.{IsSure}
 use Rattle.index_sql_schema.proofs.SureLemmas.{readable_one}
 use Rattle.index_sql_schema.proofs.WriteLemmas.{answered}
 

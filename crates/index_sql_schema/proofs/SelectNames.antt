@@ -1,38 +1,19 @@
 -- SELECT FROM names .. ORDER BY name: the names with their records, in byte order.
-use Rattle.std.proofs.Common.{◌≡◌, ◌==◌, Bool, true, false, not, cond, ℕ, List, [], ◌∷◌, codes, filter, map, Some, refl, sym, ap, subst}
-use Rattle.std.proofs.Common.{◌∙◌, IsPermutation, arith}
-use Rattle.std.specs.List.{AllByRecursion, list_all}
-use Rattle.std.specs.FinMap.{entries}
-use Rattle.std.proofs.lemmas.Cmp.{nat_list_cmp_total}
-use Rattle.std.proofs.lemmas.Map.Lookups.{exact_bytes}
-use Rattle.sqlite_tied.specs.Compute.{everything}
-use Rattle.sqlite_value.specs.declared.value.Value.TheVariants.{Null, Text}
-use Rattle.sqlite_value.specs.Order.{Row, column}
-use Rattle.sqlite_sql.specs.Term.{Term, col, eval_all, holds}
-use Rattle.sqlite_sql.specs.Query.{end}
-use Rattle.sqlite_sql.specs.Program.{overlay}
-use Rattle.sqlite_sql.specs.declared.ops.CompareOp.TheVariants.{Ne}
-use Rattle.sqlite_schema.specs.declared.command.Command.TheVariants.{Select}
-use Rattle.sqlite.specs.Listing.{understood, reads_listing}
-use Rattle.sqlite.specs.State.{State, Shown}
-use Rattle.sqlite.proofs.Callers.{IsPlain, command_of, reads_as}
-use Rattle.sqlite_keyed.proofs.ListLemmas.{all_weaker, all_of, map-map, filter-map, filter_all}
-use Rattle.sqlite_typed.proofs.TestLemmas.{last_term}
-use Rattle.index_rules.specs.declared.records.NameRecord.{NameRecord}
+use Rattle.index_sql_schema.proofs.Words.{◌≡◌, ◌==◌, Bool, true, false, not, cond, ℕ, List, [], ◌∷◌, codes, filter, map, Some, refl, sym}
+use Rattle.index_sql_schema.proofs.Words.{ap, subst, ◌∙◌, IsPermutation, arith, AllByRecursion, list_all, entries, nat_list_cmp_total}
+use Rattle.index_sql_schema.proofs.Words.{exact_bytes, everything, Null, Text, Row, column, Term, col, eval_all, holds, end, overlay, Ne}
+use Rattle.index_sql_schema.proofs.Words.{Select, understood, reads_listing, State, Shown, IsPlain, command_of, reads_as, all_weaker}
+use Rattle.index_sql_schema.proofs.Words.{all_of, map-map, filter-map, filter_all, last_term, NameRecord, Bytes, index_schema, names_at}
+use Rattle.index_sql_schema.proofs.Words.{tables_in, text_key, name_in, number_in, IsIndex, IsSure, IsNamedRow}
 use Rattle.index_rules.specs.declared.records.NameRecord.TheVariants.{Held, Prohibited}
 use Rattle.index_rules.specs.declared.rows.NameRow.{NameRow}
-use Rattle.index_rules.specs.Maps.{Bytes}
 use Rattle.index_rules.specs.Projects.{Project}
 use Rattle.index_rules.specs.TableRows.{name_row, name_rows_in, held_rows_in, is_held_row}
 use Rattle.index_rules.specs.Verdict.{is_held}
 use Rattle.index_sql_schema.proofs.EntryLemmas.{sorted_entries}
-use Rattle.index_sql_schema.specs.Schema.{index_schema, names_at}
-use Rattle.index_sql_schema.specs.Records.{tables_in, text_key, name_in, name_by, project_in, number_in}
+use Rattle.index_sql_schema.specs.Records.{name_by, project_in}
 use Rattle.index_sql_schema.specs.ShownRows.{name_row_in}
-use Rattle.index_sql_schema.specs.Index.{IsIndex}
 use Rattle.index_sql_schema.specs.StatementTexts.{select_names_text, select_held_text}
-use Rattle.index_sql_schema.specs.Sure.{IsSure}
-use Rattle.index_sql_schema.specs.RecordRows.{IsNamedRow}
 use Rattle.index_sql_schema.proofs.ShownRecords.{name_shown}
 use Rattle.index_sql_schema.proofs.SelectLemmas.{read_all}
 use Rattle.index_sql_schema.proofs.SureLemmas.{readable_one}

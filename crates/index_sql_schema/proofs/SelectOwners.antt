@@ -1,33 +1,18 @@
 -- SELECT user FROM owners .. ORDER BY user: the owners of a name, in byte order.
-use Rattle.std.proofs.Common.{◌≡◌, Bool, false, List, [], ◌∷◌, codes, filter, map, refl, ap, subst, ◌∙◌, IsPermutation, arith}
-use Rattle.std.specs.List.{list_all, AllByRecursion}
+use Rattle.index_sql_schema.proofs.Words.{◌≡◌, Bool, false, List, [], ◌∷◌, codes, filter, map, refl, ap, subst, ◌∙◌, IsPermutation, arith}
+use Rattle.index_sql_schema.proofs.Words.{list_all, AllByRecursion, nat_list_cmp_total, IsPermutation-map, IsPermutation-sym}
+use Rattle.index_sql_schema.proofs.Words.{IsPermutation-trans, is_eq-slice_cmp, everything, Null, Text, Row, column, bytes, col, eval_all}
+use Rattle.index_sql_schema.proofs.Words.{holds, end, overlay, Select, understood, reads_listing, State, Shown, IsPlain, command_of}
+use Rattle.index_sql_schema.proofs.Words.{reads_as, all_weaker, all_of, map-map, filter-map, IsPermutation-filter, sorted_unique, Bytes}
+use Rattle.index_sql_schema.proofs.Words.{same, bytes_cmp, pair_total, exact_pair, index_schema, tables_in, text_key, pair_key, nothing_in}
+use Rattle.index_sql_schema.proofs.Words.{IsIndex, IsSure, IsOwnedRow}
 use Rattle.std.specs.FinMap.{keys}
-use Rattle.std.proofs.lemmas.Cmp.{nat_list_cmp_total}
-use Rattle.std.proofs.lemmas.List.Sorted.{IsPermutation-map, IsPermutation-sym, IsPermutation-trans}
-use Rattle.std.proofs.lemmas.Map.Text.{is_eq-slice_cmp}
-use Rattle.sqlite_tied.specs.Compute.{everything}
-use Rattle.sqlite_value.specs.declared.value.Value.TheVariants.{Null, Text}
-use Rattle.sqlite_value.specs.Order.{Row, column, bytes}
-use Rattle.sqlite_sql.specs.Term.{col, eval_all, holds}
-use Rattle.sqlite_sql.specs.Query.{end}
-use Rattle.sqlite_sql.specs.Program.{overlay}
-use Rattle.sqlite_schema.specs.declared.command.Command.TheVariants.{Select}
-use Rattle.sqlite.specs.Listing.{understood, reads_listing}
-use Rattle.sqlite.specs.State.{State, Shown}
-use Rattle.sqlite.proofs.Callers.{IsPlain, command_of, reads_as}
-use Rattle.sqlite_keyed.proofs.ListLemmas.{all_weaker, all_of, map-map, filter-map, IsPermutation-filter}
-use Rattle.sqlite_keyed.proofs.SortLemmas.{sorted_unique}
-use Rattle.index_rules.specs.Maps.{Bytes, same, bytes_cmp}
 use Rattle.index_rules.specs.Tables.{owners_in}
-use Rattle.index_rules.proofs.OwnerLists.{pair_total, exact_pair, IsStrictlySortedBy-owners_in}
+use Rattle.index_rules.proofs.OwnerLists.{IsStrictlySortedBy-owners_in}
 use Rattle.index_sql_schema.proofs.EntryLemmas.{ascends, entries_permutation}
-use Rattle.index_sql_schema.specs.Schema.{index_schema}
-use Rattle.index_sql_schema.specs.Records.{tables_in, text_key, pair_key, nothing_in}
 use Rattle.index_sql_schema.specs.ShownRows.{user_shown}
-use Rattle.index_sql_schema.specs.Index.{IsIndex}
 use Rattle.index_sql_schema.specs.StatementTexts.{select_owners_text}
-use Rattle.index_sql_schema.specs.Sure.{IsSure}
-use Rattle.index_sql_schema.specs.RecordRows.{IsOwnedRow, IsOwnerRow}
+use Rattle.index_sql_schema.specs.RecordRows.{IsOwnerRow}
 use Rattle.index_sql_schema.proofs.SelectLemmas.{read_all}
 use Rattle.index_sql_schema.proofs.SureLemmas.{readable_one}
 use Rattle.index_sql_schema.proofs.QueryShapes.{plan, from_one, is_param}

@@ -1,38 +1,19 @@
 -- SELECT FROM files by name and release: whether the release has an undeleted file.
-use Rattle.std.proofs.Common.{◌≡◌, ◌==◌, Bool, true, false, ◌&&◌, ◌||◌, cond, List, [], ◌∷◌, codes, filter, map, slice_get, take, is_some}
-use Rattle.std.proofs.Common.{refl, sym, ap, ap₂, ◌∙◌, arith}
-use Rattle.std.specs.List.{list_all, list_any}
-use Rattle.std.specs.FinMap.{entries}
-use Rattle.std.proofs.lemmas.Cmp.{nat_list_cmp_total}
-use Rattle.std.proofs.lemmas.List.Sorted.{list_any-IsPermutation}
-use Rattle.std.proofs.lemmas.Map.Lookups.{exact_bytes}
-use Rattle.sqlite_tied.specs.Compute.{everything}
-use Rattle.sqlite_value.specs.declared.value.Value.TheVariants.{Null, Text}
-use Rattle.sqlite_value.specs.Order.{Row, column, bytes}
-use Rattle.sqlite_sql.specs.Term.{Term, col, eval_all, holds}
-use Rattle.sqlite_sql.specs.declared.ops.CompareOp.TheVariants.{Eq}
-use Rattle.sqlite_sql.specs.Query.{IsAnswer, Output}
-use Rattle.sqlite_sql.specs.Program.{overlay}
-use Rattle.sqlite_trees.specs.Tree.{Trees}
-use Rattle.sqlite_schema.specs.declared.command.Command.TheVariants.{Select}
-use Rattle.sqlite.specs.Listing.{understood, reads_listing}
-use Rattle.sqlite.specs.State.{State, Shown}
-use Rattle.sqlite.proofs.Callers.{IsPlain, command_of, reads_as}
-use Rattle.sqlite_keyed.proofs.ListLemmas.{all_weaker, all_both}
-use Rattle.sqlite_typed.proofs.TestLemmas.{last_term}
-use Rattle.index_rules.specs.Maps.{Bytes, same}
+use Rattle.index_sql_schema.proofs.Words.{◌≡◌, ◌==◌, Bool, true, false, ◌&&◌, ◌||◌, cond, List, [], ◌∷◌, codes, filter, map, slice_get}
+use Rattle.index_sql_schema.proofs.Words.{refl, sym, ap, ap₂, ◌∙◌, arith, list_all, list_any, entries, nat_list_cmp_total}
+use Rattle.index_sql_schema.proofs.Words.{list_any-IsPermutation, exact_bytes, everything, Null, Text, Row, column, bytes, Term, col}
+use Rattle.index_sql_schema.proofs.Words.{eval_all, holds, Eq, IsAnswer, Output, overlay, Trees, Select, understood, reads_listing, State}
+use Rattle.index_sql_schema.proofs.Words.{Shown, IsPlain, command_of, reads_as, all_weaker, all_both, last_term, Bytes, same, index_schema}
+use Rattle.index_sql_schema.proofs.Words.{files_at, text_key, file_in, tables_in, number_in, IsIndex, IsSure}
+use Rattle.std.proofs.Common.{take, is_some}
 use Rattle.index_rules.specs.Facts.{has_release_in, is_undeleted_of_release}
 use Rattle.index_sql_schema.proofs.EntryLemmas.{entries_permutation}
-use Rattle.index_sql_schema.specs.Schema.{index_schema, files_at}
-use Rattle.index_sql_schema.specs.Records.{text_key, file_in, tables_in, number_in}
-use Rattle.index_sql_schema.specs.Index.{IsIndex}
 use Rattle.index_sql_schema.specs.StatementTexts.{select_release_text}
 use Rattle.index_sql_schema.proofs.QueryShapes.{first_from, from_one, is_param, plan}
 use Rattle.index_sql_schema.proofs.KeyLemmas.{IsText, IsNumber, texts, wholes, text_test}
 use Rattle.index_sql_schema.proofs.NumberLemmas.{is_number, number_test}
 use Rattle.index_sql_schema.proofs.TableLemmas.{same-turned, files_keyed}
 use Rattle.index_sql_schema.proofs.WriteLemmas.{answered}
-use Rattle.index_sql_schema.specs.Sure.{IsSure}
 use Rattle.index_sql_schema.proofs.SureLemmas.{readable_first}
 
 abbrev tests : List Term

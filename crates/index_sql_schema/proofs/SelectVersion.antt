@@ -1,38 +1,17 @@
 -- SELECT version FROM meta: the version of an index.
-use Rattle.std.proofs.Common.{◌≡◌, pos, false, ◌&&◌, List, [], ◌∷◌, codes, Some, refl, sym, ap, ap₂, ◌∙◌}
-use Rattle.std.specs.List.{list_all}
-use Rattle.std.proofs.lemmas.Map.Text.{is_eq-slice_cmp}
-use Rattle.sqlite_tied.specs.Compute.{everything}
-use Rattle.sqlite_value.specs.declared.value.Value.TheVariants.{Null, Int, Text}
-use Rattle.sqlite_value.specs.Order.{Row, column, bytes}
-use Rattle.sqlite_trees.specs.Tree.{rowid}
-use Rattle.sqlite_sql.specs.Term.{eval_all, Term, lit, col, op2, holds}
-use Rattle.sqlite_sql.specs.declared.ops.BinaryOp.TheVariants.{Compare}
-use Rattle.sqlite_value.specs.declared.keys.Collation.TheVariants.{Binary}
-use Rattle.sqlite_sql.specs.declared.ops.CompareOp.TheVariants.{Eq}
-use Rattle.sqlite_schema.specs.declared.command.Command.TheVariants.{Select}
-use Rattle.sqlite.specs.Effect.{Database, IsDatabase}
-use Rattle.sqlite.specs.Listing.{understood}
-use Rattle.sqlite.specs.State.{State, Shown}
-use Rattle.sqlite.proofs.Callers.{IsPlain, command_of}
-use Rattle.sqlite_keyed.proofs.ListLemmas.{all_both}
-use Rattle.sqlite_typed.proofs.TestLemmas.{at_ints, at_texts, last_term}
-use Rattle.index_sql_schema.specs.Records.{number_in}
+use Rattle.index_sql_schema.proofs.Words.{◌≡◌, pos, false, ◌&&◌, List, [], ◌∷◌, codes, Some, refl, sym, ap, ap₂, ◌∙◌, list_all}
+use Rattle.index_sql_schema.proofs.Words.{is_eq-slice_cmp, everything, Null, Int, Text, Row, column, bytes, rowid, eval_all, Term, lit, col}
+use Rattle.index_sql_schema.proofs.Words.{op2, holds, Compare, Binary, Eq, Select, Database, IsDatabase, understood, State, Shown, IsPlain}
+use Rattle.index_sql_schema.proofs.Words.{command_of, all_both, at_ints, at_texts, last_term, number_in, index_schema, rowid_in, HasRowid}
+use Rattle.index_sql_schema.proofs.Words.{AreRows, Schema, first_version_schema, reads_listing, reads_as, slice_get, option_map, inl, inr}
+use Rattle.index_sql_schema.proofs.Words.{subst, slice_get-filter, meta_at, is_version}
 use Rattle.index_sql_schema.proofs.Permutations.{short_permutation}
-use Rattle.index_sql_schema.specs.Schema.{index_schema}
-use Rattle.index_sql_schema.specs.Index.{rowid_in, HasRowid, AreRows}
-use Rattle.sqlite_schema.specs.declared.schema.Schema.{Schema}
-use Rattle.index_sql_schema.specs.FirstVersion.{first_version_schema, IsAnyVersion}
+use Rattle.index_sql_schema.specs.FirstVersion.{IsAnyVersion}
 use Rattle.index_sql_schema.proofs.VersionLemmas.{kind_texts, one_version}
 use Rattle.index_sql_schema.proofs.QueryShapes.{plan, from_one}
 use Rattle.index_sql_schema.proofs.EditLemmas.{as_int}
 use Rattle.index_sql_schema.proofs.KeyLemmas.{IsText}
-use Rattle.sqlite.specs.Listing.{reads_listing}
-use Rattle.sqlite.proofs.Callers.{reads_as}
-use Rattle.std.proofs.Common.{slice_get, option_map, inl, inr, subst}
-use Rattle.sqlite_keyed.proofs.ListLemmas.{slice_get-filter}
-use Rattle.index_sql_schema.specs.Schema.{meta_at}
-use Rattle.index_sql_schema.specs.Index.{is_version, version_in}
+use Rattle.index_sql_schema.specs.Index.{version_in}
 use Rattle.index_sql_schema.proofs.LookupLemmas.{first_shown}
 use Rattle.index_sql_schema.proofs.WriteLemmas.{answered}
 use Rattle.index_sql_schema.specs.StatementTexts.{select_version_text}

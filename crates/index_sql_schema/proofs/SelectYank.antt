@@ -1,23 +1,12 @@
 -- SELECT FROM yanks by name and release: the reason for which the release is yanked.
-use Rattle.std.proofs.Common.{◌≡◌, ℕ, List, [], ◌∷◌, codes, slice_get, option_map, refl, arith}
-use Rattle.std.specs.FinMap.{get}
-use Rattle.sqlite_tied.specs.Compute.{everything}
-use Rattle.sqlite_value.specs.declared.value.Value.TheVariants.{Text}
-use Rattle.sqlite_value.specs.Order.{Row}
-use Rattle.sqlite_sql.specs.Term.{Term, col}
-use Rattle.sqlite.specs.Listing.{understood}
-use Rattle.sqlite.specs.State.{State, Shown}
-use Rattle.index_rules.specs.Maps.{Bytes}
-use Rattle.index_sql_schema.specs.Schema.{yanks_at}
-use Rattle.index_sql_schema.specs.Records.{reason_in, tables_in}
-use Rattle.index_sql_schema.specs.Index.{IsIndex}
+use Rattle.index_sql_schema.proofs.Words.{◌≡◌, ℕ, List, [], ◌∷◌, codes, slice_get, option_map, refl, arith, get, everything, Text, Row}
+use Rattle.index_sql_schema.proofs.Words.{Term, col, understood, State, Shown, Bytes, yanks_at, reason_in, tables_in, IsIndex}
+use Rattle.index_sql_schema.proofs.Words.{AllByRecursion, IsYankedRow, IsSure}
 use Rattle.index_sql_schema.specs.StatementTexts.{select_yank_text}
 use Rattle.index_sql_schema.proofs.QueryShapes.{is_param}
 use Rattle.index_sql_schema.proofs.TableLemmas.{yanks_keyed}
 use Rattle.index_sql_schema.proofs.LookupLemmas.{Selects, selects_pair, shows_pair}
-use Rattle.std.specs.List.{AllByRecursion}
-use Rattle.index_sql_schema.specs.RecordRows.{IsYankedRow, IsYankRow}
-use Rattle.index_sql_schema.specs.Sure.{IsSure}
+use Rattle.index_sql_schema.specs.RecordRows.{IsYankRow}
 use Rattle.index_sql_schema.proofs.SureLemmas.{readable_one}
 
 abbrev project : List Term

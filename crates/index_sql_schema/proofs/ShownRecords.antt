@@ -1,12 +1,7 @@
 -- The rows of records stay such if each column is shown in its place.
-use Rattle.std.proofs.Common.{inl, inr, [], ◌∷◌, subst, arith}
-use Rattle.sqlite_value.specs.Order.{Row, column}
-use Rattle.sqlite_schema.specs.declared.schema.Schema.{Schema}
-use Rattle.sqlite.specs.Effect.{Database}
-use Rattle.index_sql_schema.specs.Schema.{index_schema}
-use Rattle.index_sql_schema.specs.Index.{IsIndex}
-use Rattle.index_sql_schema.specs.RecordRows.{IsUserRow, IsNameRow, IsFileRow, IsCaseRow, IsAccountRow, IsNumberIfAny, AreRecords}
-use Rattle.index_sql_schema.specs.RecordRows.{AreRecordsOf}
+use Rattle.index_sql_schema.proofs.Words.{inl, inr, [], ◌∷◌, subst, arith, Row, column, Schema, Database, index_schema, IsIndex, IsUserRow}
+use Rattle.index_sql_schema.proofs.Words.{IsNameRow, IsFileRow, IsCaseRow, IsAccountRow, AreRecords, AreRecordsOf}
+use Rattle.index_sql_schema.specs.RecordRows.{IsNumberIfAny}
 
 -- in the order of the tables of an index
 pub known_records : (db : Database) → IsIndex db → AreRecords db → AreRecordsOf index_schema.tables db.trees

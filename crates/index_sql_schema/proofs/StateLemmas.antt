@@ -1,10 +1,5 @@
 -- What a statement leaves, whatever its text is.
-use Rattle.std.proofs.Common.{ℕ, List, subst}
-use Rattle.sqlite_value.specs.Order.{Row}
-use Rattle.sqlite.specs.Listing.{understood}
-use Rattle.sqlite.specs.Clock.{timed}
-use Rattle.sqlite.specs.State.{State, Shown, ShowsRows, IsUnchanged}
-use Rattle.sqlite.proofs.Callers.{IsPlain}
+use Rattle.index_sql_schema.proofs.Words.{ℕ, List, subst, Row, understood, timed, State, Shown, ShowsRows, IsUnchanged, IsPlain}
 
 -- a query changes nothing
 pub shown_same : (sql : List ℕ) (params : Row) (old new : State) (rows : List Row) → IsPlain (understood old.now.schema sql)

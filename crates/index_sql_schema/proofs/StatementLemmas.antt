@@ -1,31 +1,17 @@
 -- The one edit that a statement on a plain table makes, whatever the table is.
-use Rattle.std.proofs.Common.{◌≡◌, ◌⊎◌, inl, inr, ℕ, ◌/◌, Bool, true, false, List, [], ◌∷◌, length, slice_get, Option, Some, None, Ok, Err}
-use Rattle.std.proofs.Common.{Result, refl, sym, ap, subst, ◌∙◌, ℤ, true≢false}
-use Rattle.std.specs.Prelude.{MatchBool, if◌then◌else◌}
-use Rattle.sqlite_value.specs.Order.{Row}
-use Rattle.sqlite_trees.specs.Tree.{Trees}
-use Rattle.sqlite_sql.specs.Term.{Term}
-use Rattle.sqlite_schema.specs.declared.schema.Table.{Table}
-use Rattle.sqlite_schema.specs.declared.schema.Schema.{Schema}
-use Rattle.sqlite_schema.specs.declared.program.Program.{Program}
-use Rattle.sqlite_schema.specs.declared.command.Command.TheVariants.{Insert, InsertOr, Update, Delete}
-use Rattle.sqlite_schema.specs.declared.command.Source.TheVariants.{Values}
-use Rattle.std.proofs.Common.{◌++◌}
-use Rattle.sqlite_trees.specs.Tree.{rowid}
-use Rattle.sqlite_rules.specs.Cast.{cast_row}
-use Rattle.sqlite_rules.specs.Keys.{AreConflicts}
+use Rattle.index_sql_schema.proofs.Words.{◌≡◌, ◌⊎◌, inl, inr, ℕ, ◌/◌, Bool, true, false, List, [], ◌∷◌, length, slice_get, Option, Some}
+use Rattle.index_sql_schema.proofs.Words.{None, Ok, Err, refl, sym, ap, subst, ◌∙◌, ℤ, true≢false, MatchBool, Row, Trees, Term, Table}
+use Rattle.index_sql_schema.proofs.Words.{Schema, Program, Insert, InsertOr, Update, Delete, Values, ◌++◌, rowid, cast_row, AreConflicts}
+use Rattle.index_sql_schema.proofs.Words.{Upsert, Abort, shown, edit_of, with_rowid, ids_of, Chosen, Given, Database, Answers, value_rows}
+use Rattle.index_sql_schema.proofs.Words.{stamped, Tally, Does}
+use Rattle.std.proofs.Common.{Result}
+use Rattle.std.specs.Prelude.{if◌then◌else◌}
 use Rattle.sqlite_rules.specs.Steps.{IsJudged}
-use Rattle.sqlite_schema.specs.declared.command.Upsert.{Upsert}
-use Rattle.sqlite_schema.specs.declared.command.Conflict.TheVariants.{Abort}
-use Rattle.sqlite.specs.Rows.{shown, Meets, Upserts, Clears, Resolves, TriesEach, Tries, count_of, nothing}
-use Rattle.sqlite_rules.specs.Edit.{edit_of, with_rowid}
+use Rattle.sqlite.specs.Rows.{Meets, Upserts, Clears, Resolves, TriesEach, Tries, count_of, nothing}
 use Rattle.sqlite_rules.specs.Action as action
-use Rattle.sqlite_rules.specs.Calls.{ids_of}
-use Rattle.sqlite_rules.specs.declared.error.Rowids.TheVariants.{Chosen, Above, Given}
-use Rattle.sqlite.specs.Effect.{Database, Answers, value_rows}
-use Rattle.sqlite.specs.Rows.{Written, stamped, Task}
+use Rattle.sqlite_rules.specs.declared.error.Rowids.TheVariants.{Above}
+use Rattle.sqlite.specs.Rows.{Written, Task}
 use Rattle.sqlite.specs.declared.run.Mode.{Mode}
-use Rattle.sqlite.specs.Does.{Tally, Does}
 
 pub went : {B E R : Type 0} {b : B} {Stops : E → Type 0} → ((stop : E) × Stops stop × (Ok b ≡ Err stop)) ⊎ R → R
 went (inl stopped) = absurd (let e = stopped.2 in cc)

@@ -1,14 +1,8 @@
 -- What a query leaves, whatever its text is.
-use Rattle.std.proofs.Common.{◌≡◌, inl, inr, ℕ, List, Option, Some, None, sym, subst, ◌∙◌, IsTrue}
-use Rattle.sqlite_value.specs.Order.{Row}
-use Rattle.sqlite_schema.specs.declared.command.Returning.{Returning}
-use Rattle.sqlite.specs.declared.error.Error.{Error}
-use Rattle.sqlite.specs.Clock.{timed}
-use Rattle.sqlite.specs.Listing.{understood}
-use Rattle.sqlite.specs.State.{State, Shown, ShowsRows, FailsToQuery, FailsToShow, IsNotRun, IsUnchanged, IsRolledBack}
-use Rattle.sqlite.proofs.Callers.{IsPlain}
-use Rattle.index_sql_schema.specs.Schema.{index_schema}
-use Rattle.index_sql_schema.specs.Unchanged.{IsUnchangedIfOpen}
+use Rattle.index_sql_schema.proofs.Words.{◌≡◌, inl, inr, ℕ, List, Option, Some, None, sym, subst, ◌∙◌, IsTrue, Row, Returning, Error, timed}
+use Rattle.index_sql_schema.proofs.Words.{understood, State, Shown, ShowsRows, FailsToQuery, FailsToShow, IsNotRun, IsUnchanged, IsPlain}
+use Rattle.index_sql_schema.proofs.Words.{index_schema, IsUnchangedIfOpen}
+use Rattle.sqlite.specs.State.{IsRolledBack}
 use Rattle.index_sql_schema.proofs.StateLemmas.{shown_same}
 
 module _ (old new : State) where

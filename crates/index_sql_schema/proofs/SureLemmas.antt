@@ -1,22 +1,12 @@
 -- Why a query fails that the database refuses for no reason of its own.
-use Rattle.std.proofs.Common.{◌≡◌, ◌⊎◌, inl, inr, ℕ, true, false, List, [], append-nil, Option, None, Some, Ok, IsSome, sym, ap, subst, ◌∙◌}
-use Rattle.std.proofs.Common.{true≢false}
-use Rattle.sqlite_value.specs.Order.{Row}
-use Rattle.sqlite_value.specs.declared.keys.Key.{Key}
-use Rattle.sqlite_trees.specs.declared.error.StoreError.{StoreError}
-use Rattle.sqlite_sql.specs.Term.{Term}
-use Rattle.sqlite_sql.specs.Query.{left, end}
-use Rattle.sqlite_schema.specs.declared.command.Command.TheVariants.{Select}
-use Rattle.sqlite_schema.specs.declared.command.Returning.{Returning}
-use Rattle.sqlite_resolve.specs.declared.compiled.Compiled.{Compiled}
+use Rattle.index_sql_schema.proofs.Words.{◌≡◌, ◌⊎◌, inl, inr, ℕ, true, false, List, [], append-nil, Option, None, Some, Ok, IsSome, sym, ap}
+use Rattle.index_sql_schema.proofs.Words.{subst, ◌∙◌, true≢false, Row, Key, StoreError, Term, left, end, Select, Returning, Compiled, Error}
+use Rattle.index_sql_schema.proofs.Words.{timed, Database, understood, reads_listing, State, IsNotRun, FailsToQuery, FailsToShow, HasCause}
+use Rattle.index_sql_schema.proofs.Words.{store_error, index_schema, IsSure}
 use Rattle.sqlite_typing.specs.Types.{accepts_program}
-use Rattle.sqlite.specs.declared.error.Error.{Error}
-use Rattle.sqlite.specs.Clock.{timed}
-use Rattle.sqlite.specs.Effect.{Database, RefusesToRead}
-use Rattle.sqlite.specs.Listing.{understood, reads_listing, IsSourceOf}
-use Rattle.sqlite.specs.State.{State, IsNotRun, FailsToQuery, FailsToShow, HasCause, store_error}
-use Rattle.index_sql_schema.specs.Schema.{index_schema}
-use Rattle.index_sql_schema.specs.Sure.{IsReadable, IsSureAs, IsSure}
+use Rattle.sqlite.specs.Effect.{RefusesToRead}
+use Rattle.sqlite.specs.Listing.{IsSourceOf}
+use Rattle.index_sql_schema.specs.Sure.{IsReadable, IsSureAs}
 use Rattle.index_sql_schema.proofs.QueryShapes.{plan, from_with, from_one, first_from}
 
 -- a query over one table

@@ -1,36 +1,14 @@
 -- The key of each table: one text or two.
-use Rattle.std.proofs.Common.{◌≡◌, ℕ, ◌&&◌, Bool, true, false, cond, [], ◌∷◌, slice_get, refl, sym, ap₂, ◌∙◌, ℤ}
-use Rattle.std.specs.Prelude.{bytes_eq}
-use Rattle.std.specs.List.{AllByRecursion, list_all}
-use Rattle.std.specs.Ordering.{eq_by_cmp}
-use Rattle.std.proofs.lemmas.Cmp.{eq_by_cmp_equiv}
-use Rattle.std.proofs.lemmas.Map.Text.{is_eq-slice_cmp}
-use Rattle.sqlite_value.specs.declared.value.Value.{Value}
-use Rattle.sqlite_value.specs.declared.value.Value.TheVariants.{Null, Int, Text}
-use Rattle.sqlite_value.specs.Order.{Row, column}
-use Rattle.sqlite_trees.specs.Tree.{Trees, IsAscending}
+use Rattle.index_sql_schema.proofs.Words.{◌≡◌, ℕ, ◌&&◌, Bool, true, false, cond, [], ◌∷◌, slice_get, refl, sym, ap₂, ◌∙◌, ℤ, bytes_eq}
+use Rattle.index_sql_schema.proofs.Words.{AllByRecursion, list_all, eq_by_cmp, eq_by_cmp_equiv, is_eq-slice_cmp, Value, Null, Int, Text}
+use Rattle.index_sql_schema.proofs.Words.{Row, column, Trees, IsAscending, holds, Table, Column, Index, guards, overlay, plain, Database}
+use Rattle.index_sql_schema.proofs.Words.{or_null, Option, Some, None, all_both, last_term, Bytes, same, bytes_cmp, pair_cmp, same_pair}
+use Rattle.index_sql_schema.proofs.Words.{pair_total, nat_list_cmp_total, text_key, pair_key, index_schema, users_at, names_at, owners_at}
+use Rattle.index_sql_schema.proofs.Words.{files_at, blobs_at, yanks_at, cases_at, bans_at, IsIndex}
 use Rattle.sqlite_sql.specs.Ops.{unary}
-use Rattle.sqlite_sql.specs.Term.{holds}
 use Rattle.sqlite_schema.specs.declared.schema.Kind.TheVariants.{Integer}
 use Rattle.sqlite_schema.specs.declared.schema.Kind.TheVariants as kind
-use Rattle.sqlite_schema.specs.declared.schema.Table.{Table}
-use Rattle.sqlite_schema.specs.declared.schema.Column.{Column}
-use Rattle.sqlite_schema.specs.declared.schema.Index.{Index}
-use Rattle.sqlite_schema.specs.Rules.{guards}
-use Rattle.sqlite_sql.specs.Program.{overlay}
-use Rattle.sqlite_value.specs.Keys.{plain}
 use Rattle.sqlite_rules.specs.Cast.{cast}
-use Rattle.sqlite.specs.Effect.{Database}
-use Rattle.sqlite.specs.Values.{or_null}
-use Rattle.std.proofs.Common.{Option, Some, None}
-use Rattle.sqlite_keyed.proofs.ListLemmas.{all_both}
-use Rattle.sqlite_typed.proofs.TestLemmas.{last_term}
-use Rattle.index_rules.specs.Maps.{Bytes, same, bytes_cmp, pair_cmp}
-use Rattle.index_rules.proofs.OwnerLists.{same_pair, pair_total}
-use Rattle.std.proofs.lemmas.Cmp.{nat_list_cmp_total}
-use Rattle.index_sql_schema.specs.Records.{text_key, pair_key}
-use Rattle.index_sql_schema.specs.Schema.{index_schema, users_at, names_at, owners_at, files_at, blobs_at, yanks_at, cases_at, bans_at}
-use Rattle.index_sql_schema.specs.Index.{IsIndex}
 use Rattle.index_sql_schema.proofs.QueryShapes.{is_param}
 use Rattle.index_sql_schema.proofs.KeyLemmas.{IsText, IsPair, texts, texts_apart, pairs_apart, text_test}
 

@@ -1,14 +1,9 @@
 -- What the types of the columns say of a row.
-use Rattle.std.proofs.Common.{◌≡◌, ℕ, zero, suc, ◌+◌, ◌&&◌, ◌||◌, not, Bool, true, false, List, [], ◌∷◌, slice_get, slice_index_or, Some}
-use Rattle.std.proofs.Common.{None, refl, sym, ap, ◌∙◌, true≢false, subst, arith}
-use Rattle.sqlite_value.specs.declared.value.Value.{Value}
-use Rattle.sqlite_value.specs.declared.value.Value.TheVariants.{Null, Int, Real, Text, Blob}
-use Rattle.sqlite_value.specs.Order.{Row, column, bytes}
-use Rattle.sqlite_sql.specs.Ops.{is_null}
+use Rattle.index_sql_schema.proofs.Words.{◌≡◌, ℕ, zero, suc, ◌+◌, ◌&&◌, ◌||◌, not, Bool, true, false, List, [], ◌∷◌, slice_get}
+use Rattle.index_sql_schema.proofs.Words.{slice_index_or, Some, None, refl, sym, ap, ◌∙◌, true≢false, subst, arith, Value, Null, Int, Real}
+use Rattle.index_sql_schema.proofs.Words.{Text, Blob, Row, column, bytes, is_null, Column, id_in, is_of, are_typed, are_present}
 use Rattle.sqlite_schema.specs.declared.schema.Kind.TheVariants as kind
-use Rattle.sqlite_schema.specs.declared.schema.Column.{Column}
-use Rattle.sqlite_rules.specs.Edit.{id_in}
-use Rattle.sqlite_schema.specs.Rules.{is_of, suits, are_typed, are_present}
+use Rattle.sqlite_schema.specs.Rules.{suits}
 
 pub first_part : (a b : Bool) → (a && b) ≡ true → a ≡ true
 first_part true b h = refl

@@ -1,46 +1,20 @@
 -- UPDATE files: each file of the name is deleted.
-use Rattle.std.proofs.Common.{◌≡◌, inl, ℕ, pos, Bool, true, false, cond, List, [], ◌∷◌, map, Ok, refl, sym, subst, ◌∙◌}
-use Rattle.std.specs.List.{list_all}
-use Rattle.std.proofs.lemmas.Map.Lookups.{exact_bytes}
-use Rattle.std.proofs.lemmas.Map.Text.{is_eq-slice_cmp}
-use Rattle.sqlite_tied.specs.Compute.{everything}
-use Rattle.sqlite_value.specs.declared.value.Value.TheVariants.{Int, Text}
-use Rattle.sqlite_value.specs.Order.{Row, column, bytes}
-use Rattle.sqlite_value.specs.Keys.{joined}
-use Rattle.sqlite_trees.specs.Tree.{rowid}
-use Rattle.sqlite_sql.specs.Term.{Term, lit, col, eval_all, holds}
-use Rattle.sqlite_schema.specs.Names.{same_name}
-use Rattle.sqlite_schema.specs.declared.schema.Keys.TheVariants.{Enforced}
-use Rattle.sqlite_schema.specs.declared.command.Command.TheVariants.{Update}
-use Rattle.sqlite_rules.specs.Action.{works}
-use Rattle.sqlite_rules.specs.Edit.{id_in, row_at}
-use Rattle.sqlite_rules.specs.Cast.{cast_row}
-use Rattle.sqlite.specs.Listing.{understood}
-use Rattle.sqlite.specs.State.{State, Executes}
-use Rattle.sqlite.proofs.Callers.{IsPlain, command_of}
-use Rattle.sqlite_keyed.specs.Lists.{update_where}
-use Rattle.sqlite_keyed.proofs.ListLemmas.{all_weaker, all_both, all-filter}
-use Rattle.sqlite_typed.proofs.TestLemmas.{last_term}
-use Rattle.index_rules.specs.Maps.{Bytes, same, change_values}
-use Rattle.std.proofs.lemmas.Cmp.{nat_list_cmp_total}
+use Rattle.index_sql_schema.proofs.Words.{◌≡◌, inl, ℕ, pos, Bool, true, false, cond, List, [], ◌∷◌, map, Ok, refl, sym, subst, ◌∙◌}
+use Rattle.index_sql_schema.proofs.Words.{list_all, exact_bytes, is_eq-slice_cmp, everything, Int, Text, Row, column, bytes, joined, rowid}
+use Rattle.index_sql_schema.proofs.Words.{Term, lit, col, eval_all, holds, same_name, Enforced, Update, works, id_in, row_at, cast_row}
+use Rattle.index_sql_schema.proofs.Words.{understood, State, Executes, IsPlain, command_of, update_where, all_weaker, all_both, all-filter}
+use Rattle.index_sql_schema.proofs.Words.{last_term, Bytes, same, change_values, nat_list_cmp_total, text_key, file_in, index_schema}
+use Rattle.index_sql_schema.proofs.Words.{files_at, rowid_in, HasRowid, IsIndex, Changes, IsFiledRow, IsPermutation-sym}
+use Rattle.index_sql_schema.proofs.Words.{IsPermutation-trans, length, ◌==◌, arith, filter_map, Table, parent_key, work_by, deed_for, pairs}
 use Rattle.index_sql_schema.proofs.RowLemmas.{same_rows, map_from-update, split_update}
-use Rattle.index_sql_schema.specs.Records.{text_key, file_in}
 use Rattle.index_rules.specs.Effect.{as_deleted, as_deleted_of}
-use Rattle.index_sql_schema.specs.Schema.{index_schema, files_at}
-use Rattle.index_sql_schema.specs.Index.{rowid_in, HasRowid, IsIndex, Changes}
-use Rattle.index_sql_schema.specs.RecordRows.{IsFiledRow}
 use Rattle.index_sql_schema.proofs.QueryShapes.{plan, from_one, is_param}
 use Rattle.index_sql_schema.proofs.EditLemmas.{as_int}
 use Rattle.index_sql_schema.proofs.KeyLemmas.{IsText, are_rows, text_test}
 use Rattle.index_sql_schema.proofs.TableLemmas.{is_key, cast_int, files_keyed}
 use Rattle.index_sql_schema.proofs.WriteLemmas.{updates_rows}
-use Rattle.std.proofs.lemmas.List.Sorted.{IsPermutation-sym, IsPermutation-trans}
 use Rattle.index_sql_schema.proofs.KeyLemmas.{texts, wholes}
-use Rattle.std.proofs.Common.{length, ◌==◌, arith}
-use Rattle.std.specs.List.{flat_map, filter_map}
-use Rattle.sqlite_schema.specs.declared.schema.Table.{Table}
-use Rattle.sqlite_schema.specs.Rules.{parent_key}
-use Rattle.sqlite_rules.specs.Action.{work_by, deed_for, pairs}
+use Rattle.std.specs.List.{flat_map}
 use Rattle.index_sql_schema.specs.StatementTexts.{update_files_text}
 use Rattle.index_sql_schema.proofs.AfterLemmas.{files_change}
 

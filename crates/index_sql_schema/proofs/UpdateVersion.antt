@@ -1,32 +1,11 @@
 -- UPDATE meta: the version of the row with id 1 is 2.
-use Rattle.std.proofs.Common.{◌≡◌, ℕ, pos, false, ◌==◌, List, [], ◌∷◌, filter, map, length, Ok, refl, sym, ap, subst, ◌∙◌, arith}
-use Rattle.std.proofs.Common.{IsPermutation}
-use Rattle.std.specs.List.{list_all, flat_map, filter_map}
-use Rattle.sqlite_tied.specs.Compute.{everything}
-use Rattle.sqlite_value.specs.declared.value.Value.TheVariants.{Null, Int}
-use Rattle.sqlite_value.specs.declared.keys.Collation.TheVariants.{Binary}
-use Rattle.sqlite_value.specs.Order.{Row}
-use Rattle.sqlite_value.specs.Keys.{joined}
-use Rattle.sqlite_trees.specs.Tree.{rowid}
-use Rattle.sqlite_sql.specs.Term.{Term, lit, col, op2, eval_all, holds}
-use Rattle.sqlite_sql.specs.declared.ops.BinaryOp.TheVariants.{Compare}
-use Rattle.sqlite_sql.specs.declared.ops.CompareOp.TheVariants.{Eq}
-use Rattle.sqlite_schema.specs.Names.{same_name}
-use Rattle.sqlite_schema.specs.Rules.{parent_key}
-use Rattle.sqlite_schema.specs.declared.schema.Table.{Table}
-use Rattle.sqlite_schema.specs.declared.schema.Keys.TheVariants.{Enforced}
-use Rattle.sqlite_schema.specs.declared.command.Command.TheVariants.{Update}
-use Rattle.sqlite_rules.specs.Action.{works, work_by, deed_for, pairs}
-use Rattle.sqlite_rules.specs.Cast.{cast_row}
-use Rattle.sqlite_rules.specs.Edit.{put_all, row_at}
-use Rattle.sqlite.specs.Listing.{understood}
-use Rattle.sqlite.specs.State.{State, Executes}
-use Rattle.sqlite.proofs.Callers.{IsPlain, command_of}
-use Rattle.sqlite_keyed.specs.Lists.{delete_where}
-use Rattle.sqlite_keyed.proofs.ListLemmas.{all_weaker, all_both, all-filter}
-use Rattle.sqlite_typed.proofs.TestLemmas.{at_ints, last_term}
-use Rattle.index_sql_schema.specs.Schema.{index_schema, meta_at}
-use Rattle.index_sql_schema.specs.Index.{rowid_in, HasRowid, AreRows, IsIndex, Rewrites, as_version_2, is_first, raised}
+use Rattle.index_sql_schema.proofs.Words.{◌≡◌, ℕ, pos, false, ◌==◌, List, [], ◌∷◌, filter, map, length, Ok, refl, sym, ap, subst, ◌∙◌}
+use Rattle.index_sql_schema.proofs.Words.{arith, IsPermutation, list_all, filter_map, everything, Null, Int, Binary, Row, joined, rowid}
+use Rattle.index_sql_schema.proofs.Words.{Term, lit, col, op2, eval_all, holds, Compare, Eq, same_name, parent_key, Table, Enforced, Update}
+use Rattle.index_sql_schema.proofs.Words.{works, work_by, deed_for, pairs, cast_row, put_all, row_at, understood, State, Executes, IsPlain}
+use Rattle.index_sql_schema.proofs.Words.{command_of, delete_where, all_weaker, all_both, all-filter, at_ints, last_term, index_schema}
+use Rattle.index_sql_schema.proofs.Words.{meta_at, rowid_in, HasRowid, AreRows, IsIndex, Rewrites, as_version_2, is_first, raised}
+use Rattle.std.specs.List.{flat_map}
 use Rattle.index_sql_schema.specs.StatementTexts.{update_version_text}
 use Rattle.index_sql_schema.proofs.Permutations.{short_permutation}
 use Rattle.index_sql_schema.proofs.QueryShapes.{plan, from_one}

@@ -1,27 +1,13 @@
 -- The rows of meta, and the one among them that has the version: there is one at most.
-use Rattle.std.proofs.Common.{◌≡◌, ◌≤◌, pos, Bool, true, false, not, ◌&&◌, ◌||◌, cond, List, [], ◌∷◌, drop, filter, find, length, map}
-use Rattle.std.proofs.Common.{option_map, slice_get, None, Some, Ordering, Less, Equal, Greater, refl, sym, ap, subst, ◌∙◌, true≢false}
-use Rattle.std.proofs.Common.{arith, int_eq}
-use Rattle.std.specs.List.{AllByRecursion}
-use Rattle.std.specs.Ordering.{match_ordering}
-use Rattle.std.proofs.lemmas.Int.{ints}
-use Rattle.sqlite_value.specs.Order.{Row, column, value_cmp}
-use Rattle.sqlite_trees.specs.Tree.{rowid, put_row}
-use Rattle.sqlite_sql.specs.Ops.{is_null}
-use Rattle.sqlite_rules.specs.Edit.{put_all}
-use Rattle.sqlite_schema.specs.declared.schema.Table.{Table}
-use Rattle.sqlite_schema.specs.declared.schema.Schema.{Schema}
-use Rattle.sqlite_schema.specs.declared.schema.Constraint.{Constraint}
-use Rattle.sqlite_schema.specs.declared.schema.Constraint.TheVariants.{Datatype, NotNull}
-use Rattle.sqlite_schema.specs.Rules.{Keeps, passes, are_typed, are_present, has_computed}
-use Rattle.sqlite.specs.Effect.{Database, IsDatabase}
-use Rattle.sqlite_keyed.specs.Lists.{delete_where}
-use Rattle.sqlite_keyed.proofs.ListLemmas.{all_both, all_weaker, all-slice_get}
-use Rattle.sqlite_keyed.proofs.KeyedLemmas.{same_int}
+use Rattle.index_sql_schema.proofs.Words.{◌≡◌, ◌≤◌, pos, Bool, true, false, not, ◌&&◌, ◌||◌, cond, List, [], ◌∷◌, drop, filter, find}
+use Rattle.index_sql_schema.proofs.Words.{length, map, option_map, slice_get, None, Some, refl, sym, ap, subst, ◌∙◌, true≢false, arith}
+use Rattle.index_sql_schema.proofs.Words.{int_eq, AllByRecursion, match_ordering, ints, Row, column, value_cmp, rowid, put_row, is_null}
+use Rattle.index_sql_schema.proofs.Words.{put_all, Table, Schema, Constraint, Datatype, NotNull, Keeps, passes, are_typed, are_present}
+use Rattle.index_sql_schema.proofs.Words.{has_computed, Database, IsDatabase, delete_where, all_both, all_weaker, all-slice_get, same_int}
+use Rattle.index_sql_schema.proofs.Words.{meta_at, rowid_in, AreRows, as_version_2, is_first, is_version, raised, number_in}
+use Rattle.std.proofs.Common.{Ordering, Less, Equal, Greater}
 use Rattle.index_sql_schema.proofs.Permutations.{one_passes}
-use Rattle.index_sql_schema.specs.Schema.{meta_at}
-use Rattle.index_sql_schema.specs.Index.{rowid_in, AreRows, as_version_2, is_first, is_version, raised, version_among}
-use Rattle.index_sql_schema.specs.Records.{number_in}
+use Rattle.index_sql_schema.specs.Index.{version_among}
 use Rattle.index_sql_schema.proofs.EditLemmas.{Differ, filter_passes}
 use Rattle.index_sql_schema.proofs.KeyLemmas.{IsText}
 use Rattle.index_sql_schema.proofs.TypedLemmas.{as_text, first_part, second_part}

@@ -1,48 +1,21 @@
 -- What a statement on one table does, whatever the table is.
-use Rattle.std.proofs.Common.{◌≡◌, ◌≤◌, inl, inr, ℕ, ℤ, ◌/◌, Bool, true, false, not, cond, List, [], ◌∷◌, ◌++◌, map, filter, drop, length}
-use Rattle.std.proofs.Common.{slice_get, Some, None, Ok, refl, sym, ap, ap₂, subst, subst₂, ◌∙◌, true≢false, arith, IsPermutation, int_eq}
-use Rattle.std.specs.List.{AllByRecursion, list_all}
-use Rattle.std.proofs.lemmas.Int.{ints}
-use Rattle.std.proofs.lemmas.List.Sorted.{IsPermutation-refl, IsPermutation-trans, IsPermutation-map, IsPermutation-cons}
-use Rattle.std.proofs.lemmas.List.Sorted.{IsPermutation-middle, IsPermutation-append_left}
-use Rattle.sqlite_value.specs.declared.value.Value.{Value}
-use Rattle.sqlite_value.specs.declared.value.Value.TheVariants.{Null, Int}
-use Rattle.sqlite_value.specs.Order.{Row, column}
-use Rattle.sqlite_trees.specs.Tree.{Trees, rowid}
-use Rattle.sqlite_sql.specs.Term.{Term, Env, col, op2, holds, eval_all}
-use Rattle.sqlite_sql.specs.Query.{Output, IsAnswer, Join, end, matches_as}
-use Rattle.sqlite_sql.specs.Program.{overlay}
-use Rattle.sqlite_schema.specs.declared.schema.Table.{Table}
-use Rattle.sqlite_schema.specs.declared.schema.Keys.TheVariants.{Enforced}
-use Rattle.sqlite_schema.specs.declared.program.Program.{Program}
-use Rattle.sqlite_schema.specs.declared.command.Command.TheVariants.{Update, Delete, InsertOr}
-use Rattle.sqlite_schema.specs.declared.command.Conflict.TheVariants.{Abort}
-use Rattle.sqlite_schema.specs.declared.command.Source.TheVariants.{Values}
-use Rattle.sqlite_value.specs.declared.keys.Collation.TheVariants.{Binary}
-use Rattle.sqlite_sql.specs.declared.ops.BinaryOp.TheVariants.{Compare}
-use Rattle.sqlite_sql.specs.declared.ops.CompareOp.TheVariants.{Eq}
-use Rattle.sqlite_rules.specs.Keys.{conflicts, AreConflicts}
-use Rattle.sqlite_rules.specs.Lists.{Has}
-use Rattle.sqlite.specs.Rows.{shown, stamped}
-use Rattle.sqlite_rules.specs.Cast.{cast_row}
-use Rattle.sqlite_rules.specs.Action.{works, Writes}
-use Rattle.sqlite_rules.specs.Edit.{Edit, edit_of, row_at, taken_by, Applies, numbered, without_all, put_all, are_fresh, id_in, next_rowid}
-use Rattle.sqlite_rules.specs.Edit.{with_rowid}
-use Rattle.sqlite_rules.specs.Calls.{ids_of}
-use Rattle.sqlite_rules.specs.declared.error.Rowids.TheVariants.{Given, Chosen}
-use Rattle.sqlite.specs.Does.{Does}
-use Rattle.sqlite.specs.Effect.{Answers, value_rows}
-use Rattle.sqlite.specs.Listing.{understood}
-use Rattle.sqlite.specs.State.{State, mode_of, Executes}
-use Rattle.sqlite.proofs.Callers.{IsPlain, command_of, runs_as, statement_of, one_step, one_permutation}
-use Rattle.sqlite_keyed.specs.Lists.{delete_where}
-use Rattle.sqlite_keyed.proofs.ListLemmas.{all_of, all_weaker, all-filter, all-append, all_map, map-map, map_same, along_permutation}
-use Rattle.sqlite_keyed.proofs.KeyedLemmas.{same_int}
-use Rattle.sqlite_typed.proofs.TestLemmas.{last_term}
+use Rattle.index_sql_schema.proofs.Words.{◌≡◌, ◌≤◌, inl, inr, ℕ, ℤ, ◌/◌, Bool, true, false, not, cond, List, [], ◌∷◌, ◌++◌, map, filter}
+use Rattle.index_sql_schema.proofs.Words.{drop, length, slice_get, Some, None, Ok, refl, sym, ap, ap₂, subst, subst₂, ◌∙◌, true≢false}
+use Rattle.index_sql_schema.proofs.Words.{arith, IsPermutation, int_eq, AllByRecursion, list_all, ints, IsPermutation-refl}
+use Rattle.index_sql_schema.proofs.Words.{IsPermutation-trans, IsPermutation-map, IsPermutation-cons, IsPermutation-middle, Value, Null}
+use Rattle.index_sql_schema.proofs.Words.{Int, Row, column, Trees, rowid, Term, Env, col, op2, holds, eval_all, Output, IsAnswer, Join, end}
+use Rattle.index_sql_schema.proofs.Words.{matches_as, overlay, Table, Enforced, Program, Update, Delete, InsertOr, Abort, Values, Binary}
+use Rattle.index_sql_schema.proofs.Words.{Compare, Eq, conflicts, AreConflicts, Has, shown, stamped, cast_row, works, Writes, edit_of}
+use Rattle.index_sql_schema.proofs.Words.{row_at, taken_by, numbered, without_all, put_all, are_fresh, id_in, next_rowid, with_rowid}
+use Rattle.index_sql_schema.proofs.Words.{ids_of, Given, Chosen, Does, Answers, value_rows, understood, State, mode_of, Executes, IsPlain}
+use Rattle.index_sql_schema.proofs.Words.{command_of, runs_as, statement_of, one_step, delete_where, all_of, all_weaker, all-filter}
+use Rattle.index_sql_schema.proofs.Words.{all-append, all_map, map-map, along_permutation, same_int, last_term, index_schema, rowid_in}
+use Rattle.index_sql_schema.proofs.Words.{HasRowid, AreRows, IsIndex, IsRecordIn, AreRecordsIn}
+use Rattle.std.proofs.lemmas.List.Sorted.{IsPermutation-append_left}
+use Rattle.sqlite_rules.specs.Edit.{Edit, Applies}
+use Rattle.sqlite.proofs.Callers.{one_permutation}
+use Rattle.sqlite_keyed.proofs.ListLemmas.{map_same}
 use Rattle.index_sql_schema.proofs.Permutations.{all_permutation}
-use Rattle.index_sql_schema.specs.Schema.{index_schema}
-use Rattle.index_sql_schema.specs.Index.{rowid_in, HasRowid, AreRows, IsIndex}
-use Rattle.index_sql_schema.specs.RecordRows.{IsRecordIn, AreRecordsIn}
 use Rattle.index_sql_schema.proofs.QueryShapes.{from_with, from_one, plan, on_conflict}
 use Rattle.index_sql_schema.proofs.EditLemmas.{matched_gone, kept_rows, put_all_fresh, are_whole, given_stay, KeepsOthers, numbered_after}
 use Rattle.index_sql_schema.proofs.EditLemmas.{Alters, altered, has_filter, members, one_row, has_all, as_int}

@@ -1,32 +1,24 @@
 -- How a statement inside a transaction goes, whatever its text is.
-use Rattle.std.proofs.Common.{◌≡◌, ◌≤◌, ◌⊎◌, inl, inr, ℕ, false, List, [], length, append-nil, Option, None, Some, Result, Ok, Err, refl}
-use Rattle.std.proofs.Common.{sym, ap, subst, subst₂, ◌∙◌, true≢false, IsTrue}
-use Rattle.std.specs.Prelude.{MatchResult, ⊤}
-use Rattle.sqlite_disk.specs.Disk.{MoreFaults}
-use Rattle.sqlite_value.specs.Order.{Row}
+use Rattle.index_sql_writes.proofs.Words.{◌≡◌, ◌≤◌, ◌⊎◌, inl, inr, ℕ, false, List, [], length, Option, None, Some, Result, Ok, Err, refl}
+use Rattle.index_sql_writes.proofs.Words.{sym, ap, subst, ◌∙◌, true≢false, IsTrue, MatchResult, MoreFaults, Row, Ghosts, Returning, Error}
+use Rattle.index_sql_writes.proofs.Words.{timed, Database, Held, state, understood, Outcome, State, Executes, ExecutesInside, IsNotRun}
+use Rattle.index_sql_writes.proofs.Words.{fault_by, index_schema, SqlAnswersAsk, SqlFailsForReason, Statement, WithNumbers, IsInTransaction}
+use Rattle.std.proofs.Common.{append-nil}
+use Rattle.std.proofs.Common.{subst₂}
+use Rattle.std.specs.Prelude.{⊤}
 use Rattle.sqlite_trees.specs.declared.error.StoreError.{StoreError}
 use Rattle.sqlite_trees.specs.declared.error.StoreError.TheVariants.{OutOfMemory, Io, Corrupt, Full, Broken, Unstorable}
-use Rattle.sqlite_trees.specs.declared.store.Store.{Ghosts}
 use Rattle.sqlite_schema.specs.declared.command.Command.{Command}
 use Rattle.sqlite_schema.specs.declared.command.Command.TheVariants.{Insert, InsertOr, Update, Delete, CreateTable}
-use Rattle.sqlite_schema.specs.declared.command.Returning.{Returning}
 use Rattle.sqlite_schema.specs.declared.schema.Schema.{Schema}
 use Rattle.sqlite_resolve.specs.declared.compiled.Compiled.{Compiled}
 use Rattle.sqlite_resolve.specs.declared.error.CompileError.{CompileError}
-use Rattle.sqlite.specs.declared.error.Error.{Error}
-use Rattle.sqlite.specs.Clock.{timed}
 use Rattle.sqlite.specs.Does.{Tally, Does}
-use Rattle.sqlite.specs.Effect.{Database, is_query}
-use Rattle.sqlite.specs.Held.{Held, state}
-use Rattle.sqlite.specs.Listing.{understood}
-use Rattle.sqlite.specs.Rows.{Outcome}
-use Rattle.sqlite.specs.State.{State, Escapes, EndsScope, Executes, ExecutesIn, ExecutesInside, Fails, HasCause, IsMisplaced, IsNotRun}
+use Rattle.sqlite.specs.Effect.{is_query}
+use Rattle.sqlite.specs.State.{Escapes, EndsScope, ExecutesIn, Fails, HasCause, IsMisplaced}
 use Rattle.sqlite.specs.State.{IsStatement, Runs, RunsCommand, Writes, is_pragma, mode_of, shows_rows, store_error, text_of}
-use Rattle.index_sql_schema.specs.Faults.{fault_by}
 use Rattle.index_rules.specs.declared.answer.Fault.TheVariants as fault
-use Rattle.index_sql_schema.specs.Schema.{index_schema}
-use Rattle.index_sql_writes.specs.Asks.{SqlAnswersAsk, SqlAnswersStatement, SqlFailsForReason, Statement, WithNumbers, each_statement}
-use Rattle.index_sql_writes.specs.Transaction.{IsInTransaction}
+use Rattle.index_sql_writes.specs.Asks.{SqlAnswersStatement, each_statement}
 
 -- a command that changes rows, or makes a table
 abbrev pub IsWriting : Command → Type 0

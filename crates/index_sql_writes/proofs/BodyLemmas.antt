@@ -1,27 +1,21 @@
 -- The bytes of the files that rows show.
-use Rattle.std.proofs.Common.{◌≡◌, ◌≢◌, ◌<◌, length, IsSome, IsUtf8, subst, true≢false, Bool, true, false, cond, not, ◌||◌, List, [], ◌∷◌}
-use Rattle.std.proofs.Common.{Option, None, refl, sym, ap, ◌∙◌}
+use Rattle.index_sql_writes.proofs.Words.{◌≡◌, ◌<◌, length, IsSome, IsUtf8, subst, true≢false, Bool, true, false, List, [], ◌∷◌, Option}
+use Rattle.index_sql_writes.proofs.Words.{None, refl, sym, ap, ◌∙◌, get, remove, same_map, nat_list_cmp_total, exact_bytes, Text, Row}
+use Rattle.index_sql_writes.proofs.Words.{Error, fault_by, RowShowsFileName, Bytes, Map, Tables, file_shown, AreFilesOf, deletes_bodies}
+use Rattle.index_sql_writes.proofs.Words.{deletes_shown}
+use Rattle.std.proofs.Common.{◌≢◌, cond, not, ◌||◌}
 use Rattle.std.specs.List.{list_any}
-use Rattle.std.specs.FinMap.{get, remove, same_map}
-use Rattle.std.proofs.lemmas.Cmp.{nat_list_cmp_total}
-use Rattle.std.proofs.lemmas.Map.Lookups.{exact_bytes}
 use Rattle.sqlite_value.specs.declared.value.Value.{Value}
-use Rattle.sqlite_value.specs.declared.value.Value.TheVariants.{Text}
-use Rattle.sqlite_value.specs.Order.{Row, column}
-use Rattle.sqlite.specs.declared.error.Error.{Error}
+use Rattle.sqlite_value.specs.Order.{column}
 use Rattle.sqlite.specs.declared.error.Error.TheVariants.{SqliteFailure}
 use Rattle.sqlite.specs.declared.error.ErrorCode.TheVariants.{OutOfMemory}
-use Rattle.index_sql_schema.specs.Faults.{fault_by}
 use Rattle.index_names.proofs.NameLemmas.{read_file_name-no_text}
 use Rattle.index_rules.specs.declared.answer.Fault.TheVariants as fault
 use Rattle.index_sql_schema.specs.RecordRows.{IsFileText}
-use Rattle.index_sql_writes.specs.Asks.{RowShowsFileName}
 use Rattle.index_rules.specs.Effect.{is_file_of}
-use Rattle.index_rules.specs.Maps.{Bytes, Map, same}
-use Rattle.index_rules.specs.Tables.{Tables}
+use Rattle.index_rules.specs.Maps.{same}
 use Rattle.index_rules.proofs.KeyLemmas.{get-without, get-kept}
-use Rattle.index_sql_schema.specs.ShownRows.{file_shown}
-use Rattle.index_sql_writes.specs.Writes.{AreFilesOf, removes, deletes_bodies, deletes_shown}
+use Rattle.index_sql_writes.specs.Writes.{removes}
 
 one_or_rest : {X : Type 0} (one rest : Bool) (at : Option X) → cond rest None (cond one None at) ≡ cond (one || rest) None at
 one_or_rest true true at = refl

@@ -1,16 +1,7 @@
 -- What a commit leaves.
-use Rattle.std.proofs.Common.{◌≡◌, ◌∙◌, IsTrue, List, true, false, ap, refl, subst, sym}
-use Rattle.sqlite_value.specs.Order.{Row}
-use Rattle.sqlite_trees.specs.declared.store.Store.{Ghosts}
-use Rattle.sqlite_trees.specs.Tree.{Trees}
-use Rattle.sqlite.specs.Effect.{Database}
-use Rattle.sqlite.specs.Held.{Held, state}
+use Rattle.index_sql_writes.proofs.Words.{◌≡◌, ◌∙◌, IsTrue, List, true, false, ap, refl, subst, sym, Row, Ghosts, Trees, Database, Held}
+use Rattle.index_sql_writes.proofs.Words.{state, Tables, IsIndex, meta_in, tables_in, AreRecords, IsInTransaction, MakesInTransaction}
 use Rattle.sqlite.specs.State.{Shows}
-use Rattle.index_rules.specs.Tables.{Tables}
-use Rattle.index_sql_schema.specs.Index.{IsIndex, meta_in}
-use Rattle.index_sql_schema.specs.Records.{tables_in}
-use Rattle.index_sql_schema.specs.RecordRows.{AreRecords}
-use Rattle.index_sql_writes.specs.Transaction.{IsInTransaction, MakesInTransaction}
 use Rattle.index_sql_writes.specs.Changed.{HoldsIndex, IsMade}
 
 -- the trees of an index are found as one, by the schema that they list

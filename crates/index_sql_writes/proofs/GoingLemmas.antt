@@ -1,15 +1,8 @@
 -- What goes as SQL answers, one after the other.
-use Rattle.std.proofs.Common.{◌≡◌, ◌≤◌, inl, inr, ◌∙◌, List, [], ◌∷◌, ◌++◌, Option, Result, Ok, Err, arith, refl, subst}
-use Rattle.std.specs.Prelude.{MatchResult}
-use Rattle.sqlite_disk.specs.Disk.{MoreFaults}
-use Rattle.sqlite.specs.declared.error.Error.{Error}
-use Rattle.sqlite.specs.Effect.{Database}
-use Rattle.sqlite.specs.Rows.{Outcome}
-use Rattle.sqlite.specs.State.{State}
-use Rattle.index_sql_schema.specs.RecordRows.{AreRecords}
+use Rattle.index_sql_writes.proofs.Words.{◌≡◌, ◌≤◌, inl, inr, ◌∙◌, List, [], ◌∷◌, ◌++◌, Option, Result, Ok, Err, arith, refl, subst}
+use Rattle.index_sql_writes.proofs.Words.{MatchResult, MoreFaults, Error, Database, Outcome, State, AreRecords, Ask, CanAsk, SqlAnswersAsk}
+use Rattle.index_sql_writes.proofs.Words.{SqlAnswersEachAsk, SqlFailsForReason, IsInTransaction}
 use Rattle.index_sql_schema.proofs.StatementLemmas.{same_value}
-use Rattle.index_sql_writes.specs.Asks.{Ask, CanAsk, SqlAnswersAsk, SqlAnswersEachAsk, SqlFailsForReason}
-use Rattle.index_sql_writes.specs.Transaction.{IsInTransaction}
 
 pub fault_since : (first mid last : State) → first.faults ≤ mid.faults → MoreFaults mid.faults last.faults
     → MoreFaults first.faults last.faults

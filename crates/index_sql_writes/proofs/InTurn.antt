@@ -1,12 +1,6 @@
 -- Changes, one after the other.
-use Rattle.std.proofs.Common.{◌≡◌, List, ap, ◌∙◌}
-use Rattle.sqlite_value.specs.Order.{Row}
-use Rattle.sqlite.specs.State.{State, KeepsCommit}
-use Rattle.index_rules.specs.Tables.{Tables}
-use Rattle.index_sql_schema.specs.Index.{meta_in, same_meta}
-use Rattle.index_sql_schema.specs.Records.{tables_in}
-use Rattle.index_sql_schema.specs.RecordRows.{AreRecords}
-use Rattle.index_sql_writes.specs.Transaction.{IsInTransaction, MakesInTransaction}
+use Rattle.index_sql_writes.proofs.Words.{◌≡◌, List, ap, ◌∙◌, Row, State, KeepsCommit, Tables, meta_in, same_meta, tables_in, AreRecords}
+use Rattle.index_sql_writes.proofs.Words.{IsInTransaction, MakesInTransaction}
 
 pub makes_then : (change more : Tables → Tables) (rows later : List Row → List Row) (first mid last : State)
     → MakesInTransaction change rows first mid → MakesInTransaction more later mid last

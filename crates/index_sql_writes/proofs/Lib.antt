@@ -11,3 +11,4 @@ pub mod ShutLemmas
 pub mod CommitLemmas
 pub mod StepAskLemmas
 pub mod NameLemmas
+mod Words

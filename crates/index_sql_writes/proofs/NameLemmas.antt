@@ -1,17 +1,13 @@
 -- A record that is put again after its row went.
-use Rattle.std.proofs.Common.{◌≡◌, true, false, sym, ◌∙◌}
-use Rattle.std.specs.FinMap.{insert, remove, get, same_map}
-use Rattle.std.proofs.lemmas.Cmp.{nat_list_cmp_total}
-use Rattle.std.proofs.lemmas.Map.Lookups.{exact_bytes}
-use Rattle.index_rules.specs.Maps.{Bytes, Map}
+use Rattle.index_sql_writes.proofs.Words.{◌≡◌, true, false, sym, ◌∙◌, remove, get, same_map, nat_list_cmp_total, exact_bytes, Bytes, Map}
+use Rattle.index_sql_writes.proofs.Words.{FileRecord, Project, puts_name, puts_file, deletes_body, deletes_bodies}
+use Rattle.std.specs.FinMap.{insert}
 use Rattle.index_rules.specs.Effect.{means}
 use Rattle.index_rules.specs.declared.change.Change.TheVariants as change
-use Rattle.index_rules.specs.declared.records.FileRecord.{FileRecord}
 use Rattle.index_rules.specs.declared.records.NameRecord.TheVariants.{Held, Prohibited}
-use Rattle.index_rules.specs.Projects.{Project}
 use Rattle.index_rules.proofs.PutLemmas.{get-put_here, get-put_other, get-without_other, each_put}
 use Rattle.index_rules.specs.Effect.{without_record}
-use Rattle.index_sql_writes.specs.Writes.{puts_name, puts_file, puts_body, deletes_body, deletes_case, deletes_bodies, marks_files}
+use Rattle.index_sql_writes.specs.Writes.{puts_body, deletes_case, marks_files}
 
 pub insert-remove : {X : Type 0} (m : Map X) (k : Bytes) (v : X) → insert (remove m k) k v ≡ insert m k v
 insert-remove m k v =

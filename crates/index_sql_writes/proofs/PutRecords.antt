@@ -1,7 +1,9 @@
 -- A row put with the columns of a record has the record.
-use Rattle.std.proofs.Common.{◌≡◌, inl, inr, ℕ, ℤ, pos, ◌==◌, Bool, true, false, [], ◌∷◌, length, Option, Some, None, option_map, IsSome}
-use Rattle.std.proofs.Common.{IsUtf8, Ok, refl, sym, subst, arith}
-use Rattle.sqlite_value.specs.Order.{Row}
+use Rattle.index_sql_writes.proofs.Words.{◌≡◌, inl, inr, ℕ, Bool, true, false, [], ◌∷◌, length, Option, Some, None, IsSome, IsUtf8, Ok}
+use Rattle.index_sql_writes.proofs.Words.{refl, sym, subst, arith, Row, State, Executes, FileRecord, Bytes, Project, IsFiledRow, IsIndex}
+use Rattle.index_sql_writes.proofs.Words.{Changes, put_user_text, put_file_text, put_case_text, puts_file, name_of, name_cells}
+use Rattle.index_sql_writes.proofs.Words.{held_numbers, flag_number}
+use Rattle.std.proofs.Common.{ℤ, pos, ◌==◌, option_map}
 use Rattle.index_digest.specs.Digest.{digest_length}
 use Rattle.index_names.specs.FileName.{read_file_name}
 use Rattle.index_names.specs.Project.{IsNormalName}
@@ -9,25 +11,20 @@ use Rattle.index_names.specs.Release.{IsRelease}
 use Rattle.index_retention.specs.Attempts.{IsTally}
 use Rattle.index_rules.specs.Users.{IsUserId}
 use Rattle.sqlite_value.specs.declared.value.Value.TheVariants.{Int}
-use Rattle.sqlite.specs.State.{State, Executes}
 use Rattle.sqlite.specs.Values.{or_null}
 use Rattle.index_retention.specs.declared.attempts.CaseKind.{CaseKind}
 use Rattle.index_retention.specs.declared.attempts.CaseKind.TheVariants.{Continue, Reuse}
 use Rattle.index_rules.specs.declared.records.UserRecord.{UserRecord}
 use Rattle.index_rules.specs.declared.records.NameRecord.TheVariants.{Held}
-use Rattle.index_rules.specs.declared.records.FileRecord.{FileRecord}
 use Rattle.index_rules.specs.declared.records.CaseRecord.{CaseRecord}
-use Rattle.index_rules.specs.Maps.{Bytes}
-use Rattle.index_rules.specs.Projects.{Project, FitsProject}
+use Rattle.index_rules.specs.Projects.{FitsProject}
 use Rattle.index_sql_schema.specs.Records.{number_in, number_if_any, kind_by}
-use Rattle.index_sql_schema.specs.RecordRows.{IsFlag, IsKind, IsNumberIfAny, IsAccountRow, IsNameRow, IsFiledRow, IsOpenedRow}
-use Rattle.index_sql_schema.specs.Index.{IsIndex, Changes}
-use Rattle.index_sql_schema.specs.StatementTexts.{put_user_text, put_file_text, put_case_text}
+use Rattle.index_sql_schema.specs.RecordRows.{IsFlag, IsKind, IsNumberIfAny, IsAccountRow, IsNameRow, IsOpenedRow}
 use Rattle.index_sql_schema.proofs.PutUser as user_row
 use Rattle.index_sql_schema.proofs.PutFile as file_row
 use Rattle.index_sql_schema.proofs.PutCase as case_row
-use Rattle.index_sql_writes.specs.Writes.{puts_user, puts_file, puts_case, name_of, name_cells, held_numbers, prohibited_numbers}
-use Rattle.index_sql_writes.specs.Writes.{flag_number, kind_number}
+use Rattle.index_sql_writes.specs.Writes.{puts_user, puts_case, prohibited_numbers}
+use Rattle.index_sql_writes.specs.Writes.{kind_number}
 
 flag_again : (b : Bool) → (number_in (Int (flag_number b)) == 1) ≡ b
 flag_again true = refl

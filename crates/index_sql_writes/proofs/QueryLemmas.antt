@@ -1,26 +1,15 @@
 -- A query inside a transaction.
-use Rattle.std.proofs.Common.{◌≡◌, IsSome, true≢false, ℕ, List, Option, Some, None, inl, inr, sym, ap, subst, ◌∙◌, ◌⊎◌}
-use Rattle.sqlite_value.specs.Order.{Row}
-use Rattle.sqlite_schema.specs.declared.command.Returning.{Returning}
-use Rattle.sqlite.specs.declared.error.Error.{Error}
-use Rattle.sqlite.specs.Clock.{timed}
-use Rattle.sqlite.specs.Effect.{Database}
-use Rattle.sqlite.specs.Listing.{understood}
-use Rattle.sqlite.specs.State.{State, Shown, ShowsRows, FailsToQuery, FailsToShow, IsNotRun, IsTooLate, IsUnchanged, IsRolledBack}
-use Rattle.sqlite.specs.State.{KeepsCommit}
+use Rattle.index_sql_writes.proofs.Words.{◌≡◌, IsSome, true≢false, ℕ, List, Option, Some, None, inl, inr, sym, ap, subst, ◌∙◌, ◌⊎◌, Row}
+use Rattle.index_sql_writes.proofs.Words.{Returning, Error, timed, Database, understood, State, IsNotRun, KeepsCommit, Tables, index_schema}
+use Rattle.index_sql_writes.proofs.Words.{IsIndex, meta_in, same_meta, tables_in, CanAsk, SqlFailsForReason, AreRecords, IsInTransaction}
+use Rattle.index_sql_writes.proofs.Words.{MakesInTransaction}
+use Rattle.sqlite.specs.State.{Shown, ShowsRows, FailsToQuery, FailsToShow, IsTooLate, IsUnchanged, IsRolledBack}
 use Rattle.sqlite.proofs.Callers.{IsPlain}
-use Rattle.index_rules.specs.Tables.{Tables}
 use Rattle.index_sql_schema.proofs.PlainLemmas.{plain_anywhere}
-use Rattle.index_sql_schema.specs.Schema.{index_schema}
-use Rattle.index_sql_schema.specs.Index.{IsIndex, meta_in, same_meta}
-use Rattle.index_sql_schema.specs.Records.{tables_in}
 use Rattle.index_sql_schema.specs.Sure.{IsSure}
 use Rattle.index_sql_schema.proofs.SureLemmas.{fails_for}
 use Rattle.sqlite.specs.Rows.{Gives}
-use Rattle.index_sql_writes.specs.Asks.{CanAsk, SqlFailsForReason}
 use Rattle.index_sql_writes.proofs.AskLemmas.{by_cause}
-use Rattle.index_sql_schema.specs.RecordRows.{AreRecords}
-use Rattle.index_sql_writes.specs.Transaction.{IsInTransaction, MakesInTransaction}
 
 -- with its parameters as they are
 pub shown_with : (sql : List ℕ) (cells params : Row) (old new : State) (rows : List Row) → params ≡ cells → Shown sql params old new rows

@@ -1,11 +1,7 @@
 -- A transaction on a connection that was shut.
-use Rattle.std.proofs.Common.{◌≡◌, ◌∙◌, IsTrue, true, false, true≢false, subst, sym, arith}
-use Rattle.sqlite_trees.specs.Tree.{Trees}
-use Rattle.sqlite_trees.specs.declared.store.Store.{Ghosts}
-use Rattle.sqlite.specs.Held.{Held, state}
-use Rattle.sqlite.specs.State.{HasCleanDisk, Survives}
+use Rattle.index_sql_writes.proofs.Words.{◌≡◌, ◌∙◌, IsTrue, true, false, true≢false, subst, sym, arith, Trees, Ghosts, Held, state}
+use Rattle.index_sql_writes.proofs.Words.{HasCleanDisk, Survives, survives_then}
 use Rattle.sqlite.proofs.Callers.{survives_begin}
-use Rattle.sqlite.proofs.StateLemmas.{survives_then}
 
 -- a transaction on a connection that was shut: what took a step was open
 pub shut_survives : {S : Type 0} (g : Ghosts S) (old start mid new : Held S) (P : Trees → Type 0)

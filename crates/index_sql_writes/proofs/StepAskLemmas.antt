@@ -1,22 +1,14 @@
 -- Why a change fails that is made in one transaction.
-use Rattle.std.proofs.Common.{◌≡◌, ◌⊎◌, ◌≤◌, ◌∙◌, inl, inr, ℕ, List, Option, None, Some, Result, Ok, Err, IfErr, IsSome, IsTrue, arith}
-use Rattle.std.proofs.Common.{true, refl, sym, subst, true≢false}
-use Rattle.std.specs.Prelude.{IsErrAnd}
-use Rattle.std.proofs.lemmas.Bool.{cases_Bool}
-use Rattle.sqlite_trees.specs.declared.store.Store.{Ghosts}
-use Rattle.sqlite.specs.declared.error.Error.{Error}
-use Rattle.sqlite.specs.Held.{Held, state}
-use Rattle.sqlite.specs.State.{State}
+use Rattle.index_sql_writes.proofs.Words.{◌≡◌, ◌⊎◌, ◌≤◌, ◌∙◌, inl, inr, ℕ, List, Option, None, Some, Result, Ok, Err, IsSome, IsTrue, arith}
+use Rattle.index_sql_writes.proofs.Words.{true, refl, sym, subst, true≢false, IsErrAnd, cases_Bool, Ghosts, Error, Held, state, State}
+use Rattle.index_sql_writes.proofs.Words.{fault_by, IsIndex, AreRecords, Ask, CanAsk, SqlAnswersEachAsk, SqlFailsForReason, IsInTransaction}
+use Rattle.index_sql_writes.proofs.Words.{FailsForRefusal}
+use Rattle.std.proofs.Common.{IfErr}
 use Rattle.sqlite.specs.Steps.{FailsToCommit}
-use Rattle.index_sql_schema.specs.Faults.{fault_by}
 use Rattle.index_sql_schema.specs.Reasons.{HasReason}
 use Rattle.index_rules.specs.declared.answer.Fault.TheVariants as fault
-use Rattle.index_sql_schema.specs.Index.{IsIndex}
-use Rattle.index_sql_schema.specs.RecordRows.{AreRecords}
-use Rattle.index_sql_writes.specs.Asks.{Ask, CanAsk, SqlAnswersEachAsk, SqlFailsForReason}
-use Rattle.index_sql_writes.specs.Transaction.{IsInTransaction}
 use Rattle.index_sql_writes.proofs.AskLemmas.{caused}
-use Rattle.index_sql_writes.specs.StepAsks.{AreRefused, FailsForRefusal}
+use Rattle.index_sql_writes.specs.StepAsks.{AreRefused}
 
 -- at the exit of a `?`
 pub at_exit : {A : Type 0} (r : Result A Error) (e : Error) (Q : Error → Type 0) → IsErrAnd r (λ it. it ≡ e) → Q e → IfErr r Q

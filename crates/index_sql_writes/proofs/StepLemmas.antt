@@ -1,14 +1,8 @@
 -- Statements inside a transaction.
-use Rattle.std.proofs.Common.{◌≡◌, inl, inr, ℕ, List, Ok, Err, Result, refl, sym, subst, IsTrue, false}
-use Rattle.std.proofs.lemmas.Bool.{cases_Bool}
-use Rattle.sqlite_value.specs.Order.{Row}
-use Rattle.sqlite_trees.specs.declared.store.Store.{Ghosts}
-use Rattle.sqlite.specs.Held.{Held, state}
-use Rattle.sqlite.specs.declared.error.Error.{Error}
-use Rattle.sqlite.specs.State.{State, Executes, ExecutesInside, KeepsCommit}
-use Rattle.index_rules.specs.Tables.{Tables}
-use Rattle.index_sql_schema.specs.Index.{IsIndex, Rewrites}
-use Rattle.index_sql_writes.specs.Transaction.{IsInTransaction, MakesInTransaction}
+use Rattle.index_sql_writes.proofs.Words.{◌≡◌, inl, inr, ℕ, List, Ok, Err, Result, refl, sym, subst, IsTrue, false, cases_Bool, Row, Ghosts}
+use Rattle.index_sql_writes.proofs.Words.{Held, state, Error, State, Executes, ExecutesInside, KeepsCommit, Tables, IsIndex}
+use Rattle.index_sql_writes.proofs.Words.{IsInTransaction, MakesInTransaction}
+use Rattle.index_sql_schema.specs.Index.{Rewrites}
 
 -- a statement inside a transaction commits nothing
 pub inside_keeps : (sql : List ℕ) (params : Row) (old new : State) (r : Result ℕ Error) → ExecutesInside 0 sql params old new r

@@ -1,12 +1,9 @@
 -- The statements of the steps are such that SQL understands them on the tables of an index.
-use Rattle.std.proofs.Common.{refl, arith}
+use Rattle.index_sql_writes.proofs.Words.{refl, arith, understood, index_schema, put_user_text, put_name_text, put_owner_text}
+use Rattle.index_sql_writes.proofs.Words.{put_file_text, put_body_text, put_yank_text, put_case_text, put_ban_text, delete_name_text}
+use Rattle.index_sql_writes.proofs.Words.{delete_owners_text, delete_owner_text, delete_yanks_text, delete_yank_text, delete_case_text}
+use Rattle.index_sql_writes.proofs.Words.{delete_body_text, update_files_text}
 use Rattle.sqlite_tied.specs.Compute.{everything}
-use Rattle.sqlite.specs.Listing.{understood}
-use Rattle.index_sql_schema.specs.Schema.{index_schema}
-use Rattle.index_sql_schema.specs.StatementTexts.{put_user_text, put_name_text, put_owner_text, put_file_text, put_body_text, put_yank_text}
-use Rattle.index_sql_schema.specs.StatementTexts.{put_case_text, put_ban_text, delete_name_text, delete_owners_text, delete_owner_text}
-use Rattle.index_sql_schema.specs.StatementTexts.{delete_yanks_text, delete_yank_text, delete_case_text, delete_body_text}
-use Rattle.index_sql_schema.specs.StatementTexts.{update_files_text}
 use Rattle.index_sql_writes.proofs.AskLemmas.{IsWrite}
 
 pub put_user_sure : IsWrite index_schema put_user_text 3

@@ -1,30 +1,16 @@
 -- Steps of one statement.
-use Rattle.std.proofs.Common.{◌≡◌, ◌∙◌, inl, inr, ℕ, List, [], ◌∷◌, ◌++◌, length, Ok, Err, Result, Some, refl, subst, sym, IsTrue, arith}
-use Rattle.std.proofs.Common.{false}
-use Rattle.std.specs.Prelude.{IsErrAnd}
+use Rattle.index_sql_writes.proofs.Words.{◌≡◌, ◌∙◌, inl, inr, ℕ, List, [], ◌∷◌, ◌++◌, length, Ok, Err, Result, Some, refl, subst, sym}
+use Rattle.index_sql_writes.proofs.Words.{IsTrue, arith, false, IsErrAnd, cases_Bool, Row, Ghosts, Error, Held, state, State, Executes}
+use Rattle.index_sql_writes.proofs.Words.{ExecutesInside, HasCleanDisk, Survives, survives_then, Bytes, Project, Tables, IsIndex, Changes}
+use Rattle.index_sql_writes.proofs.Words.{same_meta, on_store, index_schema, put_name_text, Ask, CanAsk, SqlAnswersEachAsk, Statement}
+use Rattle.index_sql_writes.proofs.Words.{WithNumbers, IsInTransaction, IsUncommitted, MakesInTransaction, ManyStepsMakeChange}
+use Rattle.index_sql_writes.proofs.Words.{RunsStatement, StepMakesChange, project_numbers, held_numbers, name_cells, name_of, puts_name}
 use Rattle.std.specs.Borrow.{MutBor}
-use Rattle.std.proofs.lemmas.Bool.{cases_Bool}
-use Rattle.sqlite_value.specs.Order.{Row}
-use Rattle.sqlite_trees.specs.declared.store.Store.{Ghosts}
-use Rattle.sqlite.specs.declared.error.Error.{Error}
 use Rattle.sqlite.specs.declared.transaction.Transaction.{Transaction}
 use Rattle.sqlite.specs.declared.error.Error.TheVariants.{IntegralValueOutOfRange}
-use Rattle.sqlite.specs.Held.{Held, state}
-use Rattle.sqlite.specs.State.{State, Executes, ExecutesInside, HasCleanDisk, Survives}
-use Rattle.sqlite.proofs.StateLemmas.{survives_then}
 use Rattle.index_rules.specs.declared.records.NameRecord.TheVariants as known
-use Rattle.index_rules.specs.Maps.{Bytes}
-use Rattle.index_rules.specs.Projects.{Project}
-use Rattle.index_rules.specs.Tables.{Tables}
-use Rattle.index_sql_schema.specs.Index.{IsIndex, Changes, same_meta}
-use Rattle.index_sql_schema.specs.OnStore.{on_store}
-use Rattle.index_sql_schema.specs.Schema.{index_schema}
-use Rattle.index_sql_schema.specs.StatementTexts.{put_name_text}
-use Rattle.index_sql_writes.specs.Asks.{Ask, CanAsk, HasTooMuch, SqlAnswersEachAsk, Statement, WithNumbers}
-use Rattle.index_sql_writes.specs.Transaction.{IsInTransaction, IsUncommitted, MakesInTransaction}
-use Rattle.index_sql_writes.specs.Steps.{ManyStepsMakeChange, RunsStatement, StepMakesChange}
-use Rattle.index_sql_writes.specs.Statements.{hold_name_ask, project_numbers}
-use Rattle.index_sql_writes.specs.Writes.{held_numbers, name_cells, name_of, puts_name}
+use Rattle.index_sql_writes.specs.Asks.{HasTooMuch}
+use Rattle.index_sql_writes.specs.Statements.{hold_name_ask}
 use Rattle.index_sql_writes.specs.declared.statements.NameNumbers.{NameNumbers}
 use Rattle.index_sql_writes.proofs.PutRecords.{held_again}
 use Rattle.index_sql_writes.proofs.AskLemmas.{IsWrite, fits, step_goes}

@@ -1,41 +1,27 @@
 -- What is done after a look at the version.
-use Rattle.std.proofs.lemmas.Bool.{cases_Bool}
-use Rattle.std.proofs.Common.{◌≡◌, ◌≢◌, inl, inr, ◌∙◌, ap, refl, subst, sym, Bool, true, false, true≢false, if◌then◌else◌, ◌==◌, ◌&&◌}
-use Rattle.std.proofs.Common.{codes, IsSome, IsTrue, ℕ, Option, option_map, None, Some, Result, Ok, Err, IfErr}
-use Rattle.sqlite_trees.specs.declared.store.Store.{Ghosts}
-use Rattle.sqlite.specs.Effect.{Database}
-use Rattle.sqlite.specs.Held.{Held, state}
-use Rattle.sqlite.specs.State.{HasCleanDisk}
-use Rattle.index_sql_writes.specs.StepAsks.{AreRefused}
-use Rattle.index_sql_schema.specs.Looks.{QueriesOnly}
-use Rattle.index_sql_schema.specs.Reasons.{HasReason}
-use Rattle.index_sql_schema.specs.RecordRows.{AreRecords}
-use Rattle.index_rules.specs.StandsFor.{StandsFor}
-use Rattle.index_rules.specs.Tables.{Tables}
-use Rattle.index_rules.specs.declared.open.OpenFault.{OpenFault}
-use Rattle.index_rules.specs.declared.open.OpenFault.TheVariants.{BadFirstUser, NotEmpty, NotAnIndex, OtherVersion, OutOfMemory, Store}
-use Rattle.sqlite_schema.specs.Names.{same_name}
-use Rattle.sqlite_schema.specs.declared.schema.Schema.{Schema}
+use Rattle.index_tables.proofs.Words.{cases_Bool, ◌≡◌, inl, inr, ◌∙◌, ap, refl, subst, sym, Bool, true, false, true≢false, ◌==◌, ◌&&◌}
+use Rattle.index_tables.proofs.Words.{IsTrue, ℕ, Option, option_map, None, Some, Result, Ok, Err, IfErr, Ghosts, Database, Held, state}
+use Rattle.index_tables.proofs.Words.{HasCleanDisk, AreRefused, QueriesOnly, HasReason, AreRecords, StandsFor, Tables, OpenFault}
+use Rattle.index_tables.proofs.Words.{BadFirstUser, NotEmpty, NotAnIndex, OtherVersion, OutOfMemory, Store, same_name, Schema, has_meta}
+use Rattle.index_tables.proofs.Words.{begun, Fault, selects, IsFirstVersion, first_version_schema, meta_in, version_among, version_in}
+use Rattle.index_tables.proofs.Words.{tables_of, Unopened, IsWorking, BooksState, FirstVersion, Adopts, IsFound, IsOurs, IsRaised, IsReason}
+use Rattle.index_tables.proofs.Words.{AreOpened, CrashLeavesOrMakes, IsFault, IsUnopened, StoreForRefusal, open_fault_by}
+use Rattle.std.proofs.Common.{◌≢◌, if◌then◌else◌}
+use Rattle.std.proofs.Common.{codes, IsSome}
 use Rattle.index_sql_opening.specs.Migrated.{asks_of_migration}
-use Rattle.index_sql_opening.specs.Names.{has_all_of, has_meta, has_table}
-use Rattle.index_sql_opening.specs.Versions.{FailsToReadVersion, VersionQueryFailsInside, begun}
-use Rattle.index_rules.specs.declared.answer.Fault.{Fault}
+use Rattle.index_sql_opening.specs.Names.{has_all_of, has_table}
+use Rattle.index_sql_opening.specs.Versions.{FailsToReadVersion, VersionQueryFailsInside}
 use Rattle.index_rules.specs.declared.answer.Fault.TheVariants as fault
 use Rattle.index_sql_schema.proofs.BearerLemmas.{one_bearer}
-use Rattle.index_sql_schema.proofs.SelectVersion.{selects}
 use Rattle.index_sql_schema.proofs.VersionLemmas.{raised_tells}
-use Rattle.index_sql_schema.specs.FirstVersion.{IsAnyVersion, IsFirstVersion, first_version_schema}
-use Rattle.index_sql_schema.specs.Index.{meta_in, raised, version_among, version_in}
-use Rattle.index_sql_reads.specs.ConnectionTables.{tables_of}
+use Rattle.index_sql_schema.specs.FirstVersion.{IsAnyVersion}
+use Rattle.index_sql_schema.specs.Index.{raised}
 use Rattle.index_sql_writes.proofs.GoingLemmas.{fault_since}
-use Rattle.index_tables.specs.declared.opening.Unopened.{Unopened}
-use Rattle.index_tables.specs.BooksState.{IsWorking, BooksState}
 use Rattle.index_tables.specs.declared.adopt.Kind.{Kind}
-use Rattle.index_tables.specs.declared.adopt.Kind.TheVariants.{FirstVersion}
-use Rattle.index_tables.specs.Adopted.{Adopts, AreHandedOn, DatabaseFailsToOpen, DatabaseHasVersion, foreign_tables_fault, refusal_by}
-use Rattle.index_tables.specs.Adopted.{HasVersionOne, IsFound, IsOurs, IsRaised, IsReason, IsReasonOfKind, StandAsFound, refusal_in}
+use Rattle.index_tables.specs.Adopted.{AreHandedOn, DatabaseFailsToOpen, DatabaseHasVersion, foreign_tables_fault, refusal_by}
+use Rattle.index_tables.specs.Adopted.{HasVersionOne, IsReasonOfKind, StandAsFound, refusal_in}
 use Rattle.index_tables.specs.Adopted.{version_of}
-use Rattle.index_tables.specs.Opened.{AreOpened, CrashLeavesOrMakes, IsFault, IsUnopened, RefusesFound, StoreForRefusal, open_fault_by}
+use Rattle.index_tables.specs.Opened.{RefusesFound}
 use Rattle.index_tables.proofs.OpenedLemmas.{unopened_by}
 
 -- one set of tables is found in a database

@@ -1,24 +1,13 @@
 -- What a look at the connection leaves of the books.
-use Rattle.std.proofs.Common.{◌≡◌, ◌⊎◌, ◌∙◌, inl, inr, ℕ, Bool, IsTrue, List, Result, Some, ap, is_ok, not, subst, sym}
-use Rattle.sqlite_trees.specs.declared.store.Store.{Ghosts}
-use Rattle.sqlite.specs.Effect.{Database}
-use Rattle.sqlite.specs.Held.{Held, state}
-use Rattle.sqlite.specs.State.{HasCleanDisk}
-use Rattle.index_io.specs.Counts.{next_count}
-use Rattle.index_sql_schema.specs.Looks.{QueriesOnly}
-use Rattle.index_rules.specs.declared.answer.Fault.{Fault}
+use Rattle.index_tables.proofs.Words.{◌≡◌, ◌⊎◌, ◌∙◌, inl, inr, ℕ, Bool, IsTrue, List, Result, Some, ap, is_ok, not, subst, sym, Ghosts}
+use Rattle.index_tables.proofs.Words.{Database, Held, state, HasCleanDisk, next_count, QueriesOnly, Fault, Tables, CountsStoreFault}
+use Rattle.index_tables.proofs.Words.{fails_by_store, ends_by_store, has_fault, on_store, IsIndex, meta_in, version_in, AreRecords}
+use Rattle.index_tables.proofs.Words.{tables_in, HasVersion, IsHonest, BooksState, Leaves, LooksFor, SqlLooks, WalksBooks}
 use Rattle.index_rules.specs.declared.rows.WalkEnd.{WalkEnd}
-use Rattle.index_rules.specs.Tables.{Tables}
-use Rattle.index_rules.specs.StoreFaults.{CountsStoreFault, fails_by_store, ends_by_store}
-use Rattle.index_rules.specs.Walks.{TakerStep, has_fault}
+use Rattle.index_rules.specs.Walks.{TakerStep}
 use Rattle.index_sql_reads.specs.Finds.{FindsInTables}
-use Rattle.index_sql_schema.specs.OnStore.{on_store}
 use Rattle.index_sql_reads.specs.WalkReasons.{HandsRows}
-use Rattle.index_sql_schema.specs.Index.{IsIndex, meta_in, version_in}
-use Rattle.index_sql_schema.specs.RecordRows.{AreRecords}
-use Rattle.index_sql_schema.specs.Records.{tables_in}
-use Rattle.index_tables.specs.BooksState.{HasVersion, IsHonest, BooksState, Leaves}
-use Rattle.index_tables.specs.LooksUp.{BooksStep, LooksFor, SqlLooks, WalksBooks}
+use Rattle.index_tables.specs.LooksUp.{BooksStep}
 
 pub keeps : {S : Type 0} (number : ℕ) (g : Ghosts S) (old new : Held S) (did : Bool) → IsTrue did → QueriesOnly g old new did
     → IsHonest number (state g old) → HasCleanDisk (state g new) → IsHonest number (state g new)

@@ -1,31 +1,16 @@
 -- Books that are opened on a connection, or not.
-use Rattle.std.proofs.Common.{◌≡◌, ℕ, ◌∙◌, ap, Bool, inl, inr, false, IsTrue, List, Some, Result, Ok, Err, refl, subst, sym}
+use Rattle.index_tables.proofs.Words.{◌≡◌, ℕ, ◌∙◌, ap, Bool, inl, inr, false, IsTrue, List, Some, Result, Ok, Err, refl, subst, sym, Trees}
+use Rattle.index_tables.proofs.Words.{Ghosts, Error, Database, Held, state, HasCleanDisk, fault_by, IsIndex, meta_in, version_in}
+use Rattle.index_tables.proofs.Words.{version_among, IsIndexConnection, QueriesOnly, on_store, AreRecords, tables_in, Fault, OpenFault}
+use Rattle.index_tables.proofs.Words.{Bytes, Tables, Unopened, AreCurrent, HasVersion, IsHonest, IsWorking, IsSettled, settled_at}
+use Rattle.index_tables.proofs.Words.{AreOpened, CrashLeavesOrMakes, IsUnopened, KeepsLimit, StoreForRefusal, open_fault_by}
 use Rattle.sqlite_value.specs.Order.{Row}
-use Rattle.sqlite_trees.specs.Tree.{Trees}
-use Rattle.sqlite_trees.specs.declared.store.Store.{Ghosts}
-use Rattle.sqlite.specs.declared.error.Error.{Error}
-use Rattle.sqlite.specs.Effect.{Database}
-use Rattle.sqlite.specs.Held.{Held, state}
-use Rattle.sqlite.specs.State.{HasCleanDisk}
 use Rattle.index_sql_opening.specs.Making.{IsAtRest, MakesIndex, MakesNewIndex}
-use Rattle.index_sql_schema.specs.Faults.{fault_by}
-use Rattle.index_sql_schema.specs.Index.{IsIndex, meta_in, version_in, version_among}
-use Rattle.index_sql_schema.specs.Looks.{IsIndexConnection, QueriesOnly}
-use Rattle.index_sql_schema.specs.OnStore.{ConnectionStep, on_store}
-use Rattle.index_sql_schema.specs.RecordRows.{AreRecords}
-use Rattle.index_sql_schema.specs.Records.{tables_in}
+use Rattle.index_sql_schema.specs.OnStore.{ConnectionStep}
 use Rattle.index_sql_writes.specs.Asks.{Ask}
-use Rattle.index_rules.specs.declared.answer.Fault.{Fault}
 use Rattle.index_rules.specs.declared.answer.Fault.TheVariants as fault
-use Rattle.index_rules.specs.declared.open.OpenFault.{OpenFault}
 use Rattle.index_rules.specs.declared.open.OpenFault.TheVariants as open_fault
 use Rattle.index_rules.specs.declared.records.UserRecord.{UserRecord}
-use Rattle.index_rules.specs.Maps.{Bytes}
-use Rattle.index_rules.specs.Tables.{Tables}
-use Rattle.index_tables.specs.declared.opening.Unopened.{Unopened}
-use Rattle.index_tables.specs.BooksState.{AreCurrent, HasVersion, IsHonest, IsWorking}
-use Rattle.index_tables.specs.Laws.{IsSettled, settled_at}
-use Rattle.index_tables.specs.Opened.{AreOpened, CrashLeavesOrMakes, IsUnopened, KeepsLimit, StoreForRefusal, open_fault_by}
 use Rattle.index_tables.proofs.KeptLemmas.{keeps}
 
 store_by : (f : Fault) → open_fault_by f ≡ open_fault.Store → f ≡ fault.Store

@@ -1,15 +1,11 @@
 -- The place that ends last, as a walk over the files finds it.
-use Rattle.std.proofs.Common.{◌≡◌, ◌∙◌, ◌==◌, ◌&&◌, ℕ, true, false, cond, nat_lt, length, List, [], ◌∷◌}
-use Rattle.std.proofs.Common.{Option, Some, None, option_map, Result, Ok, Err, OnOk, refl, ap}
-use Rattle.sqlite_trees.specs.declared.store.Store.{Ghosts}
-use Rattle.sqlite.specs.Held.{Held, state}
-use Rattle.index_rules.specs.Maps.{Bytes}
+use Rattle.index_tables.proofs.Words.{◌≡◌, ◌∙◌, ◌==◌, ◌&&◌, ℕ, true, false, length, List, [], Option, Some, None, option_map, Result, Ok}
+use Rattle.index_tables.proofs.Words.{Err, OnOk, refl, ap, Ghosts, Held, state, Bytes, Tables, IsIndexConnection, last_from, HasVersion}
+use Rattle.index_tables.proofs.Words.{IsHonest, Leaves}
+use Rattle.std.proofs.Common.{cond, nat_lt, ◌∷◌}
 use Rattle.index_rules.specs.Rows.{Took}
-use Rattle.index_rules.specs.Tables.{Tables}
-use Rattle.index_sql_schema.specs.Looks.{IsIndexConnection}
 use Rattle.index_volume.specs.Places.{place_end, place_length}
-use Rattle.index_volume_books.specs.Last.{are_places, last_from, ending_later}
-use Rattle.index_tables.specs.BooksState.{HasVersion, IsHonest, Leaves}
+use Rattle.index_volume_books.specs.Last.{are_places, ending_later}
 use Rattle.index_tables.specs.Places.{IsOpenedIfOk, TakesPlace, is_later, place_of}
 
 -- of two places the one that ends later

@@ -1,14 +1,7 @@
 -- An index of version 3 is refused only for a fault.
-use Rattle.std.proofs.Common.{◌≡◌, ◌∙◌, ap, inl, inr, refl, sym, ℕ, Option, true, false, true≢false}
-use Rattle.sqlite_schema.specs.Names.{same_name}
-use Rattle.sqlite.specs.Effect.{Database}
-use Rattle.index_sql_opening.specs.Names.{has_meta}
-use Rattle.sqlite_trees.specs.declared.store.Store.{Ghosts}
-use Rattle.sqlite.specs.Held.{Held, state}
-use Rattle.index_rules.specs.declared.open.OpenFault.{OpenFault}
-use Rattle.index_sql_opening.specs.Versions.{VersionQueryShows, begun}
-use Rattle.index_sql_schema.proofs.SelectVersion.{selects}
-use Rattle.index_sql_schema.specs.Index.{IsIndex, version_in}
+use Rattle.index_tables.proofs.Words.{◌≡◌, ◌∙◌, ap, inl, inr, refl, sym, ℕ, Option, true, false, true≢false, same_name, Database, has_meta}
+use Rattle.index_tables.proofs.Words.{Ghosts, Held, state, OpenFault, begun, selects, IsIndex, version_in}
+use Rattle.index_sql_opening.specs.Versions.{VersionQueryShows}
 use Rattle.index_tables.specs.Placed.{RefusesPlaced, placed_refusal}
 
 -- an index has the table of the version

@@ -1,40 +1,28 @@
 -- What is opened over what an index left.
-use Rattle.std.proofs.Common.{◌≡◌, ◌⊎◌, inl, inr, ◌∙◌, ap, subst, sym, refl, IsTrue, [], length, Result, Ok, Err, IfOk, IfErr, arith}
+use Rattle.index_tables.proofs.Words.{◌≡◌, ◌⊎◌, inl, inr, ◌∙◌, ap, subst, sym, refl, IsTrue, [], length, Result, Ok, Err, IfOk, IfErr, get}
+use Rattle.index_tables.proofs.Words.{Image, Trees, Ghosts, Schema, Database, over_files, file_state, Held, state, HasCleanDisk, tables_of}
+use Rattle.index_tables.proofs.Words.{Tables, OpenFault, BadFirstUser, NotEmpty, NotAnIndex, OtherVersion, OutOfMemory, Store}
+use Rattle.index_tables.proofs.Words.{first_version_schema, IsIndex, tables_in, Unopened, BooksState, AreCurrent, IsHonest, IsWorking}
+use Rattle.index_tables.proofs.Words.{Leaves, IsFound, IsOurs, AreOpened, IsFault, IsUnopened, MayLeave, IsLeft, IsOver, OpensOnly}
+use Rattle.index_tables.proofs.Words.{IsSettled}
+use Rattle.std.proofs.Common.{arith}
 use Rattle.std.proofs.Math.Logic.{∥∥₁_elim, ∥∥₁_map}
-use Rattle.std.specs.FinMap.{get, insert, empty, get-empty}
+use Rattle.std.specs.FinMap.{insert, empty, get-empty}
 use Rattle.sqlite_disk.specs.declared.Disk as disk
-use Rattle.sqlite_wal.specs.Recovery.{Image}
-use Rattle.sqlite_trees.specs.Tree.{Trees}
 use Rattle.sqlite_trees.specs.Props.{Trees-set}
 use Rattle.sqlite_trees.specs.Objects.{catalog_tree}
-use Rattle.sqlite_trees.specs.declared.store.Store.{Ghosts}
-use Rattle.sqlite_schema.specs.declared.schema.Schema.{Schema}
 use Rattle.sqlite_catalog.proofs.ReadLemmas.{lists_once}
 use Rattle.sqlite_store.specs.declared.store.FileStore.{FileStore}
 use Rattle.sqlite_store.specs.FileStore as store
-use Rattle.sqlite.specs.Effect.{Database, IsDatabase}
-use Rattle.sqlite.specs.Files.{over_files, file_state}
-use Rattle.sqlite.specs.Held.{Held, state, AreDatabases}
-use Rattle.sqlite.specs.State.{HasCleanDisk}
+use Rattle.sqlite.specs.Effect.{IsDatabase}
+use Rattle.sqlite.specs.Held.{AreDatabases}
 use Rattle.sqlite.proofs.Theorems.{next_run}
 use Rattle.index_sql_writes.specs.Changed.{HoldsIndex}
-use Rattle.index_sql_reads.specs.ConnectionTables.{tables_of}
 use Rattle.index_rules.specs.Maps.{bytes_cmp}
-use Rattle.index_rules.specs.Tables.{Tables}
-use Rattle.index_rules.specs.declared.open.OpenFault.{OpenFault}
-use Rattle.index_rules.specs.declared.open.OpenFault.TheVariants.{BadFirstUser, NotEmpty, NotAnIndex, OtherVersion, OutOfMemory, Store}
 use Rattle.index_rules.proofs.KeyLemmas.{get-put}
-use Rattle.index_sql_schema.specs.FirstVersion.{first_version_schema}
-use Rattle.index_sql_schema.specs.Index.{IsIndex}
-use Rattle.index_sql_schema.specs.Records.{tables_in}
 use Rattle.index_sql_schema.specs.Schema.{index_schema}
 use Rattle.index_sql_schema.specs.CreateSteps.{no_tables}
-use Rattle.index_tables.specs.declared.opening.Unopened.{Unopened}
-use Rattle.index_tables.specs.BooksState.{BooksState, AreCurrent, IsHonest, IsWorking, Leaves}
-use Rattle.index_tables.specs.Adopted.{IsFound, IsOurs}
-use Rattle.index_tables.specs.Opened.{AreOpened, IsFault, IsUnopened}
-use Rattle.index_tables.specs.Reopened.{MayLeave, IsLeft, IsOver, OpensOnly}
-use Rattle.index_tables.specs.Laws.{IsSettled, current}
+use Rattle.index_tables.specs.Laws.{current}
 
 -- ---- the schema of what is found
 

@@ -1,29 +1,14 @@
 -- What a write answers.
-use Rattle.std.proofs.Common.{◌≡◌, ℕ, IsTrue, ◌⊎◌, inl, inr, Result, Ok, Err, IfErr, OnOk, false, is_ok, ap, subst, sym, ◌∙◌, true≢false}
-use Rattle.std.proofs.lemmas.Bool.{cases_Bool}
-use Rattle.sqlite.specs.State.{HasCleanDisk}
-use Rattle.index_sql_schema.specs.RecordRows.{AreRecords}
-use Rattle.index_sql_schema.specs.Records.{tables_in}
-use Rattle.index_tables.specs.Laws.{IsSettled, settled_at}
-use Rattle.sqlite_trees.specs.declared.store.Store.{Ghosts}
-use Rattle.sqlite.specs.declared.error.Error.{Error}
-use Rattle.sqlite.specs.Effect.{Database}
-use Rattle.sqlite.specs.Held.{Held, state}
-use Rattle.index_sql_writes.specs.StepAsks.{AreRefused, FailsForRefusal}
-use Rattle.index_sql_schema.specs.Faults.{fault_by}
-use Rattle.index_sql_schema.specs.Reasons.{HasReason}
-use Rattle.index_rules.specs.declared.answer.Fault.{Fault}
+use Rattle.index_tables.proofs.Words.{◌≡◌, ℕ, IsTrue, ◌⊎◌, inl, inr, Result, Ok, Err, IfErr, OnOk, false, is_ok, ap, subst, sym, ◌∙◌}
+use Rattle.index_tables.proofs.Words.{true≢false, cases_Bool, HasCleanDisk, AreRecords, tables_in, IsSettled, settled_at, Ghosts, Error}
+use Rattle.index_tables.proofs.Words.{Database, Held, state, AreRefused, fault_by, HasReason, Fault, MakesChange, IsInvisibleIfShut}
+use Rattle.index_tables.proofs.Words.{IsIndex, meta_in, version_among, version_in, IsIndexConnection, Tables, BooksState, HasVersion}
+use Rattle.index_tables.proofs.Words.{IsHonest, IsWorking, Leaves, KeepsLimit}
+use Rattle.index_sql_writes.specs.StepAsks.{FailsForRefusal}
 use Rattle.index_rules.specs.declared.answer.Fault.TheVariants as fault
 use Rattle.index_rules.specs.declared.change.Change.{Change}
 use Rattle.index_sql_writes.specs.ChangeAsks.{asks_of}
-use Rattle.index_sql_writes.specs.Changed.{MakesChange}
-use Rattle.index_sql_writes.specs.Transaction.{IsInvisibleIfShut}
-use Rattle.index_sql_schema.specs.Index.{IsIndex, meta_in, version_among, version_in}
-use Rattle.index_sql_schema.specs.Looks.{IsIndexConnection}
-use Rattle.index_rules.specs.Tables.{Tables}
-use Rattle.index_tables.specs.BooksState.{BooksState, HasVersion, IsHonest, IsWorking, Leaves}
 use Rattle.index_tables.specs.LooksUp.{HasMetaOf, KeepsMeta}
-use Rattle.index_tables.specs.Opened.{KeepsLimit}
 
 -- an error that is told as a fault has the reason of the error
 pub told_reason : {A S : Type 0} (g : Ghosts S) (change : Change) (old new : Held S) (made : Result A Error) (told : Result A Fault)

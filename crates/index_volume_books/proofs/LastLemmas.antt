@@ -1,14 +1,12 @@
 -- The entry of `bodies` whose place ends last.
-use Rattle.std.proofs.Common.{◌≡◌, ◌==◌, ◌<◌, ◌≤◌, ℕ, Bool, true, false, not, cond, nat_lt, length, List, [], ◌∷◌, find, Some, None}
-use Rattle.std.proofs.Common.{option_map, refl, sym, ap, subst, ◌∙◌, arith, inl, inr}
-use Rattle.std.proofs.lemmas.Bool.{and_parts, cases_Bool, eqb-true, false≢true, le-ltb, lt-ltb, ltb-false, ltb-true}
-use Rattle.std.specs.FinMap.{entries, get}
-use Rattle.index_rules.specs.Maps.{Bytes}
-use Rattle.index_rules.specs.Tables.{Tables}
+use Rattle.index_volume_books.proofs.Words.{◌≡◌, ◌<◌, ◌≤◌, ℕ, Bool, true, false, not, cond, length, List, [], Some, None, option_map, refl}
+use Rattle.index_volume_books.proofs.Words.{sym, ap, subst, ◌∙◌, arith, inl, inr, false≢true, get, Bytes, Tables, place_end, Fits, IsLast}
+use Rattle.std.proofs.Common.{◌==◌, nat_lt, ◌∷◌, find}
+use Rattle.std.proofs.lemmas.Bool.{and_parts, cases_Bool, eqb-true, le-ltb, lt-ltb, ltb-false, ltb-true}
+use Rattle.std.specs.FinMap.{entries}
 use Rattle.index_rules.proofs.EntryLemmas.{get-found, get-missed}
-use Rattle.index_volume.specs.Places.{place_end, place_length}
-use Rattle.index_volume_books.specs.Over.{Fits}
-use Rattle.index_volume_books.specs.Last.{IsLast, are_places, last_from}
+use Rattle.index_volume.specs.Places.{place_length}
+use Rattle.index_volume_books.specs.Last.{are_places, last_from}
 
 -- whether a place ends behind this end
 abbrev pub behind : ℕ → Bytes × Bytes → Bool

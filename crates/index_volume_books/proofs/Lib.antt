@@ -2,3 +2,4 @@ pub mod OverLemmas
 pub mod ThroughLemmas
 pub mod TakenLemmas
 pub mod LastLemmas
+mod Words

@@ -1,16 +1,14 @@
 -- What changes do to tables over a volume.
-use Rattle.std.proofs.Common.{◌≡◌, ℕ, Bool, true, false, cond, not, refl, sym, ap, ◌∙◌, subst, Option, Some, None, option_map}
-use Rattle.std.specs.FinMap.{get, insert, remove, retain_keys, same_map}
+use Rattle.index_volume_books.proofs.Words.{◌≡◌, ℕ, Bool, true, false, cond, not, refl, sym, ap, ◌∙◌, subst, Option, Some, None, option_map}
+use Rattle.index_volume_books.proofs.Words.{get, Bytes, Tables, means, Change, get-change_values, LiesBelow, bytes_at, over, Fits, has_body}
+use Rattle.index_volume_books.proofs.Words.{with_stored}
+use Rattle.std.specs.FinMap.{insert, remove, retain_keys, same_map}
 use Rattle.std.proofs.lemmas.Cmp.{nat_list_cmp_total}
 use Rattle.std.proofs.lemmas.Map.Lookups.{exact_bytes}
-use Rattle.index_rules.specs.Maps.{Bytes, Map, same, change_values}
-use Rattle.index_rules.specs.Tables.{Tables}
-use Rattle.index_rules.specs.Effect.{means, is_file_of}
-use Rattle.index_rules.specs.declared.change.Change.{Change}
+use Rattle.index_rules.specs.Maps.{Map, same, change_values}
+use Rattle.index_rules.specs.Effect.{is_file_of}
 use Rattle.index_rules.specs.declared.change.Change.TheVariants as change
-use Rattle.index_rules.proofs.KeyLemmas.{get-put, get-without, get-kept, get-change_values}
-use Rattle.index_volume.specs.Places.{LiesBelow, bytes_at}
-use Rattle.index_volume_books.specs.Over.{over, Fits, has_body, with_stored}
+use Rattle.index_rules.proofs.KeyLemmas.{get-put, get-without, get-kept}
 
 module _ (f : Bytes → Bytes) (m : Map Bytes) where
   map-cond_some : (b : Bool) (v : Bytes) (x : Option Bytes) → option_map f (cond b (Some v) x) ≡ cond b (Some (f v)) (option_map f x)

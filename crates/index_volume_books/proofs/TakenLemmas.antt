@@ -1,25 +1,20 @@
 -- Books and a volume that are taken together, or not.
-use Rattle.std.proofs.Common.{◌≡◌, ◌≢◌, ◌∙◌, ap, refl, sym, subst, subst₂, ℕ, ◌≤◌, ◌<◌, true, List, IsTrue, Option, Some, None, option_map}
-use Rattle.std.proofs.Common.{is_some, Result, Ok, Err, length, take, arith}
-use Rattle.std.proofs.lemmas.Bool.{false≢true}
-use Rattle.std.specs.FinMap.{get}
-use Rattle.std.specs.Result.{IfErr, OnOk}
+use Rattle.index_volume_books.proofs.Words.{◌≡◌, ◌≢◌, ◌∙◌, ap, refl, sym, subst, subst₂, ℕ, ◌≤◌, ◌<◌, true, List, IsTrue, Option, Some}
+use Rattle.index_volume_books.proofs.Words.{None, option_map, Result, Ok, Err, length, take, arith, false≢true, get, OnOk, Bytes, Tables}
+use Rattle.index_volume_books.proofs.Words.{get-change_values, LiesBelow, bytes_at, place_end, IsLast, Fits, over, AreSettled, AreTaken}
+use Rattle.index_volume_books.proofs.Words.{BothHonest, Side}
+use Rattle.std.proofs.Common.{is_some}
+use Rattle.std.specs.Result.{IfErr}
 use Rattle.sqlite_disk.specs.Disk.{Only}
 use Rattle.index_digest.specs.Digest.{sha256}
-use Rattle.index_rules.specs.Maps.{Bytes}
 use Rattle.index_rules.specs.Sound.{IsSound}
-use Rattle.index_rules.specs.Tables.{Tables}
 use Rattle.index_rules.specs.Verdict.{is_undeleted}
 use Rattle.index_rules.specs.declared.records.FileRecord.{FileRecord}
-use Rattle.index_rules.proofs.KeyLemmas.{get-change_values}
-use Rattle.index_volume.specs.Places.{LiesBelow, bytes_at, place_end}
 use Rattle.index_volume.specs.Volume.{Keeps}
 use Rattle.index_volume_books.specs.declared.adopt.TakeFault.{TakeFault}
 use Rattle.index_volume_books.specs.declared.adopt.TakeFault.TheVariants as fault
-use Rattle.index_volume_books.specs.Last.{HasBytesOf, IsDigestOf, IsLast, IsVolumeOf}
-use Rattle.index_volume_books.specs.Over.{Fits, over}
-use Rattle.index_volume_books.specs.Taken.{AreFit, AreUntaken, AreSettled, AreTaken, EndsBehind, HasOtherBytes, LooksAtLast}
-use Rattle.index_volume_books.specs.Through.{BothHonest, Side}
+use Rattle.index_volume_books.specs.Last.{HasBytesOf, IsDigestOf, IsVolumeOf}
+use Rattle.index_volume_books.specs.Taken.{AreFit, AreUntaken, EndsBehind, HasOtherBytes, LooksAtLast}
 use Rattle.index_volume_books.proofs.ThroughLemmas.{fits_more}
 
 -- what settled them twice settled them

@@ -1,21 +1,15 @@
 -- A write of places, as a write of bytes.
-use Rattle.std.proofs.Common.{◌≡◌, ◌⊎◌, inl, inr, ℕ, ◌≤◌, true, false, IsTrue, refl, sym, ap, ◌∙◌, subst, List, [], Option, Some, None}
-use Rattle.std.proofs.Common.{option_map, Result, Ok, Err, is_ok, take, ◌<◌, ◌^◌, arith}
-use Rattle.std.specs.Result.{OnOk, OnErr, IfOk}
-use Rattle.std.specs.FinMap.{get}
+use Rattle.index_volume_books.proofs.Words.{◌≡◌, ◌⊎◌, inl, inr, ℕ, ◌≤◌, true, false, IsTrue, refl, sym, ap, ◌∙◌, subst, List, [], Option}
+use Rattle.index_volume_books.proofs.Words.{Some, None, option_map, Result, Ok, Err, is_ok, take, ◌<◌, arith, OnOk, get, get-change_values}
+use Rattle.index_volume_books.proofs.Words.{false≢true, Change, means, Bytes, Tables, bytes_at, over, Fits, has_body, with_stored}
+use Rattle.index_volume_books.proofs.Words.{over_same, Side, BothHonest}
+use Rattle.std.proofs.Common.{◌^◌}
+use Rattle.std.specs.Result.{OnErr, IfOk}
 use Rattle.std.proofs.lemmas.Nat.{from_be_bytes-to_be_bytes_8}
-use Rattle.index_rules.proofs.KeyLemmas.{get-change_values}
-use Rattle.std.proofs.lemmas.Bool.{false≢true}
 use Rattle.index_rules.specs.declared.answer.Fault.{Fault}
-use Rattle.index_rules.specs.declared.change.Change.{Change}
 use Rattle.index_rules.specs.declared.change.Change.TheVariants as change
-use Rattle.index_rules.specs.Effect.{means}
-use Rattle.index_rules.specs.Maps.{Bytes}
-use Rattle.index_rules.specs.Tables.{Tables}
-use Rattle.index_volume.specs.Places.{bytes_at, place_at, place_size, place_text}
-use Rattle.index_volume_books.specs.Over.{over, Fits, has_body, with_stored}
-use Rattle.index_volume_books.specs.OverLaws.{over_same}
-use Rattle.index_volume_books.specs.Through.{Side, FindsThrough, WritesThrough, BothHonest, left_of, both_tables}
+use Rattle.index_volume.specs.Places.{place_at, place_size, place_text}
+use Rattle.index_volume_books.specs.Through.{FindsThrough, WritesThrough, left_of, both_tables}
 use Rattle.index_volume_books.proofs.OverLemmas.{over_means, fits_means}
 
 pub on_ok_map : {A E : Type 0} {P Q : Type 0} (r : Result A E) → (P → Q) → OnOk r P → OnOk r Q

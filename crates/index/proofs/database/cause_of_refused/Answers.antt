@@ -1,4 +1,5 @@
-use Rattle.std.proofs.Common.{◌≡◌, true, inl, inr, is_some, rules}
+use Rattle.index.proofs.Words.{◌≡◌, true, inl, inr, rules}
+use Rattle.std.proofs.Common.{is_some}
 use Rattle.index.proofs.RefusedLemmas.{told_by_files, told_by_schema}
 use Rattle.index.proofs.database.cause_of_refused.Goals as goal
 

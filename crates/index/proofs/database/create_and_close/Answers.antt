@@ -1,12 +1,5 @@
-use Rattle.std.proofs.Common.{IfErr, IfOk, refl, subst, sym}
-use Rattle.std.proofs.lemmas.Result.{IfErr-weaker, IfOk-weaker}
-use Rattle.sqlite.specs.Closing.{IsCopied}
-use Rattle.sqlite.specs.Files.{IsClosed, file_state, over_files}
-use Rattle.sqlite.specs.WalReads.{AreClean}
-use Rattle.index_rules.specs.FirstTables.{first_tables}
-use Rattle.index_tables.specs.Opened.{IsCreated}
-use Rattle.index.specs.Openings.{IsUnmade, IsWhyUnmade}
-use Rattle.index.specs.Runs.{IsMadeNew}
+use Rattle.index.proofs.Words.{IfErr, IfOk, refl, subst, sym, IfErr-weaker, IfOk-weaker, IsCopied, IsClosed, file_state, over_files}
+use Rattle.index.proofs.Words.{AreClean, first_tables, IsCreated, IsUnmade, IsWhyUnmade, IsMadeNew}
 use Rattle.index.proofs.RunLemmas.{clean_before, created_by, created_in_log_by, refused_by, was_clean_by, working_of}
 use Rattle.index.proofs.database.create_and_close.Goals as goal
 

@@ -1,7 +1,4 @@
-use Rattle.std.proofs.Common.{rules}
-use Rattle.sqlite.specs.WalFiles.{image_at}
-use Rattle.index.specs.declared.database.Left.TheVariants.{Shut}
-use Rattle.index.specs.Openings.{CleanShutLeaves}
+use Rattle.index.proofs.Words.{rules, image_at, Shut, CleanShutLeaves}
 use Rattle.index.proofs.ChainLemmas.{unfound_leads, work_leads}
 use Rattle.index.proofs.database.work_on.Goals as goal
 

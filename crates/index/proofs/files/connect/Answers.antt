@@ -1,5 +1,4 @@
-use Rattle.std.proofs.Common.{◌∙◌, length, ap, rules, sym}
-use Rattle.index.specs.Openings.{AreAsFound}
+use Rattle.index.proofs.Words.{◌∙◌, length, ap, rules, sym, AreAsFound}
 use Rattle.index.proofs.FilesLemmas.{allowed_by, has_sums, left_unmade, measured, not_made, opened_on, still}
 use Rattle.index.proofs.files.connect.Goals as goal
 use Rattle.index.proofs.files.connect.Goals.{in-Ok-Ok, in_default}

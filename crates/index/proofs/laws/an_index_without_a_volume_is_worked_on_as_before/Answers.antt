@@ -1,4 +1,4 @@
-use Rattle.index_http.specs.Steps.{to_sink}
+use Rattle.index.proofs.Words.{to_sink}
 use Rattle.index.proofs.OneFileLemmas.{ends_as_on_files, looks_elsewhere}
 use Rattle.index.proofs.laws.an_index_without_a_volume_is_worked_on_as_before.Goals as goal
 

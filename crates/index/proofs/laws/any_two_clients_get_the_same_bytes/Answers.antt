@@ -1,7 +1,6 @@
-use Rattle.index.specs.InVolume.{in_volume}
+use Rattle.index.proofs.Words.{in_volume, in_files}
 use Rattle.index.proofs.VolumeLemmas.{found_in_volume}
 use Rattle.index.proofs.ChainLemmas.{found_in_files}
-use Rattle.index.specs.Runs.{in_files}
 use Rattle.index.proofs.AgreeLemmas.{agree_through}
 use Rattle.index.proofs.WrongBytes.{refutes_disagreement}
 use Rattle.index.proofs.laws.any_two_clients_get_the_same_bytes.Goals as goal

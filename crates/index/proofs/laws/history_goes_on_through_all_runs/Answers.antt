@@ -1,7 +1,6 @@
-use Rattle.index.specs.InVolume.{in_volume}
+use Rattle.index.proofs.Words.{in_volume, in_files}
 use Rattle.index.proofs.VolumeLemmas.{found_in_volume}
 use Rattle.index.proofs.ChainLemmas.{found_in_files}
-use Rattle.index.specs.Runs.{in_files}
 use Rattle.index.proofs.GoesOnLemmas.{goes_on, stand_on}
 use Rattle.index.proofs.laws.history_goes_on_through_all_runs.Goals as goal
 

@@ -1,6 +1,5 @@
-use Rattle.index.specs.InVolume.{in_volume}
+use Rattle.index.proofs.Words.{in_volume, in_files}
 use Rattle.index.proofs.ChainLemmas.{found_in_files}
-use Rattle.index.specs.Runs.{in_files}
 use Rattle.index.proofs.GoesOnLemmas.{there_by_run}
 use Rattle.index.proofs.RefutedLemmas.{created_run_found_none, created_run_leaves_an_index, cut_run_leaves_an_index, index_is_not_none}
 use Rattle.index.proofs.VolumeLemmas.{found_in_volume}

@@ -1,6 +1,5 @@
-use Rattle.index.specs.InVolume.{in_volume}
+use Rattle.index.proofs.Words.{in_volume, in_files}
 use Rattle.index.proofs.VolumeLemmas.{found_in_volume}
-use Rattle.index.specs.Runs.{in_files}
 use Rattle.index.proofs.ChainLemmas.{found_in_files, stand_through}
 use Rattle.index.proofs.laws.tables_stand_through_all_runs.Goals as goal
 

@@ -1,6 +1,4 @@
-use Rattle.std.proofs.Common.{ap, true≢false}
-use Rattle.std.specs.Prelude.{is_ok}
-use Rattle.index.specs.Openings.{IsBadFirstUserByHex}
+use Rattle.index.proofs.Words.{ap, true≢false, is_ok, IsBadFirstUserByHex}
 use Rattle.index.proofs.PairLemmas.{only_first_user}
 use Rattle.index.proofs.VolumeRuns.{database_of_opened}
 use Rattle.index.proofs.new_pair.create.Goals as goal

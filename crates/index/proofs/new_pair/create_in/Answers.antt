@@ -1,15 +1,6 @@
-use Rattle.std.proofs.Common.{◌≡◌, ◌∙◌, IfErr, IfOk, false, rules, subst, subst₂, sym}
-use Rattle.sqlite.specs.Closing.{IsCopied}
-use Rattle.sqlite.specs.Files.{IsClosed, file_state, over_files}
-use Rattle.sqlite.specs.WalReads.{AreClean}
-use Rattle.index_rules.specs.FirstTables.{IsBadFirstUser, first_tables}
-use Rattle.index_rules.specs.declared.open.OpenFault.TheVariants.{BadFirstUser}
-use Rattle.index_sql_opening.specs.Names.{has_any_of}
-use Rattle.index_sql_schema.specs.Schema.{index_schema}
-use Rattle.index_tables.specs.BooksState.{IsHonest, IsWorking}
-use Rattle.index_tables.specs.Opened.{AreNew}
-use Rattle.index.specs.declared.end.End.TheVariants.{Open}
-use Rattle.index.specs.Openings.{IsToldOf}
+use Rattle.index.proofs.Words.{◌≡◌, ◌∙◌, IfErr, IfOk, false, rules, subst, subst₂, sym, IsCopied, IsClosed, file_state, over_files}
+use Rattle.index.proofs.Words.{AreClean, IsBadFirstUser, first_tables, BadFirstUser, has_any_of, index_schema, IsHonest, IsWorking, AreNew}
+use Rattle.index.proofs.Words.{Open, IsToldOf}
 use Rattle.index.proofs.PairLemmas.{closed_fault, refused_for_user}
 use Rattle.index.proofs.RunLemmas.{free_of}
 use Rattle.index.proofs.VolumeRuns.{created_to_next}

@@ -1,5 +1,4 @@
-use Rattle.std.proofs.Common.{◌≡◌, rules, subst, sym}
-use Rattle.index.specs.Pairs.{WorksOver, placed_side}
+use Rattle.index.proofs.Words.{◌≡◌, rules, subst, sym, WorksOver, placed_side}
 use Rattle.index.proofs.PairLemmas.{kept_on, worked_on}
 use Rattle.index.proofs.pair.run_over.Goals as goal
 

@@ -1,10 +1,6 @@
-use Rattle.std.proofs.Common.{Err, false, inl, inr, refl, rules, subst}
+use Rattle.index.proofs.Words.{Err, false, inl, inr, refl, rules, subst, over_files, image_at, OtherVersion, ComesOfRun, IsToldOf}
+use Rattle.index.proofs.Words.{IsUnfound, IsWhyUnfound, IsWhyUnused, UnusedLeaves}
 use Rattle.std.specs.Prelude.{IfSome}
-use Rattle.sqlite.specs.Files.{over_files}
-use Rattle.sqlite.specs.WalFiles.{image_at}
-use Rattle.index_rules.specs.declared.open.OpenFault.TheVariants.{OtherVersion}
-use Rattle.index.specs.Jobs.{ComesOfRun}
-use Rattle.index.specs.Openings.{IsToldOf, IsUnfound, IsWhyUnfound, IsWhyUnused, UnusedLeaves}
 use Rattle.index.proofs.PairLemmas.{ends_from}
 use Rattle.index.proofs.VolumeRuns.{database_of_refused}
 use Rattle.index.proofs.pair.work_by_version.Goals as goal

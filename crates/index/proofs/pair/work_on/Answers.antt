@@ -1,5 +1,4 @@
-use Rattle.std.proofs.Common.{Ok, false, subst}
-use Rattle.sqlite.specs.WalFiles.{image_at}
+use Rattle.index.proofs.Words.{Ok, false, subst, image_at}
 use Rattle.index.specs.Openings.{OpeningEnds}
 use Rattle.index.proofs.VolumeRuns.{database_of_opened}
 use Rattle.index.proofs.pair.work_on.Goals as goal

@@ -1,4 +1,4 @@
-use Rattle.std.proofs.Common.{inl, inr, rules}
+use Rattle.index.proofs.Words.{inl, inr, rules}
 use Rattle.index.proofs.pair.work_on_disk.Goals as goal
 
 pub returns-in-Ok : goal.returns-in-Ok

@@ -1,8 +1,5 @@
-use Rattle.std.proofs.Common.{Ok, Err, subst, subst₂}
-use Rattle.sqlite.specs.Files.{over_files}
-use Rattle.index_tables.specs.Placed.{TakesPlaced}
+use Rattle.index.proofs.Words.{Ok, Err, subst, subst₂, over_files, TakesPlaced, IsToldOf}
 use Rattle.index.specs.InVolume.{pair_of}
-use Rattle.index.specs.Openings.{IsToldOf}
 use Rattle.index.proofs.VolumeRuns.{leaves_to_next}
 use Rattle.index.proofs.pair.work_placed.Goals as goal
 

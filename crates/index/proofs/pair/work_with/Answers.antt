@@ -1,4 +1,4 @@
-use Rattle.std.proofs.Common.{ap₂, inl, inr}
+use Rattle.index.proofs.Words.{ap₂, inl, inr}
 use Rattle.index.proofs.FreshLemmas.{seen}
 use Rattle.index.proofs.pair.work_with.Goals as goal
 

@@ -1,9 +1,6 @@
-use Rattle.std.proofs.Common.{◌≡◌, ◌≢◌, ◌∙◌, ◌+◌, inl, inr, refl, Ok, Err, arith, rules}
-use Rattle.index_desk.proofs.InvariantLemmas.{keeps_on}
-use Rattle.index_cli.specs.declared.end.LineEnd.TheVariants.{ReadFault, WriteFault}
+use Rattle.index_cli.proofs.Words.{◌≡◌, ◌≢◌, ◌∙◌, ◌+◌, inl, inr, refl, Ok, Err, arith, rules, keeps_on, ReadFault, WriteFault, leaves_none}
 use Rattle.index_cli.proofs.CauseLemmas.{HaveFailed-push, counted_push, faults_before, faults_push, none_failed}
 use Rattle.index_cli.proofs.Cuts.{Charges-trans, PartIsTaken-none}
-use Rattle.index_desk.proofs.LeavesLemmas.{leaves_none}
 use Rattle.index_cli.proofs.LinesWentLemmas.{lines_end, lines_none, lines_push}
 use Rattle.index_cli.proofs.Progress.{Progress-during, Progress-none, Progress-part, Progress-push, Progress-taken, Progress-whole}
 use Rattle.index_cli.proofs.RunEnds.{LinesEnd-before, failed_or_spent}

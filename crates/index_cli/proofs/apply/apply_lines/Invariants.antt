@@ -1,8 +1,5 @@
-use Rattle.std.proofs.Common.{◌≡◌, ◌≤◌, ◌+◌, ℕ}
+use Rattle.index_cli.proofs.Words.{◌≡◌, ◌≤◌, ◌+◌, ℕ, KeepsInvariants, HaveCounted, HaveFailed, LinesReportFaults, Charges}
 use Rattle.index_cli.specs.declared.apply.TheConstants.{MOST_BYTES}
-use Rattle.index_desk.specs.Invariants.{KeepsInvariants}
-use Rattle.index_cli.specs.Causes.{HaveCounted, HaveFailed, LinesReportFaults}
-use Rattle.index_cli.specs.Lines.{Charges}
 use Rattle.index_cli.proofs.LinesWentLemmas.{so_far}
 use Rattle.index_cli.proofs.Progress.{Progress}
 use Rattle.index_cli.proofs.apply.apply_lines.Given as goal

@@ -1,5 +1,5 @@
-use Rattle.std.proofs.Common.{◌∙◌, ℕ, Option, Result, Ok, Err, OnErr, arith}
-use Rattle.index_cli.specs.declared.end.LineEnd.{LineEnd}
+use Rattle.index_cli.proofs.Words.{◌∙◌, ℕ, Option, Result, Ok, Err, arith, LineEnd}
+use Rattle.std.proofs.Common.{OnErr}
 use Rattle.index_cli.proofs.Cuts.{Grows-byte, Grows-feed, Grows-part, Grows-push}
 use Rattle.index_cli.proofs.input.next_line.Goals as goal
 

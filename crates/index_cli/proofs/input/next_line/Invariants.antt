@@ -1,4 +1,4 @@
-use Rattle.std.proofs.Common.{◌≡◌, ◌+◌}
+use Rattle.index_cli.proofs.Words.{◌≡◌, ◌+◌}
 use Rattle.index_cli.proofs.Cuts.{Grows}
 use Rattle.index_cli.proofs.input.next_line.Given as goal
 

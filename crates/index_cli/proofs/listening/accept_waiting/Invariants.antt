@@ -1,4 +1,4 @@
-use Rattle.index_cli.specs.Waiting.{AddsBehind}
+use Rattle.index_cli.proofs.Words.{AddsBehind}
 use Rattle.index_cli.proofs.listening.accept_waiting.Given as goal
 
 -- those that came so far stand behind those that waited

@@ -1,6 +1,8 @@
-use Rattle.std.proofs.Common.{rules, arith, ◌≡◌, List, [], ◌∷◌, ◌++◌, length, length-append, ap, subst, sym, refl, Result, Ok, Err, IfOk}
+use Rattle.index_cli.proofs.Words.{rules, arith, ◌≡◌, List, [], ◌∷◌, ◌++◌, length, length-append, ap, subst, sym, refl, Result, Ok, Err}
+use Rattle.index_cli.proofs.Words.{AddsBehind}
+use Rattle.std.proofs.Common.{IfOk}
 use Rattle.std.proofs.lemmas.List.{nil_from_length}
-use Rattle.index_cli.specs.Waiting.{AddsBehind, TakesFirst}
+use Rattle.index_cli.specs.Waiting.{TakesFirst}
 use Rattle.index_cli.proofs.listening.next_waiting.Goals as goal
 use Rattle.index_cli.proofs.listening.next_waiting.Goals.{then-is_ok+in_ok-set_nonblocking, else-is_ok}
 

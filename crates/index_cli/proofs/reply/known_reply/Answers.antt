@@ -1,4 +1,4 @@
-use Rattle.std.proofs.Common.{inl, inr, refl, rules}
+use Rattle.index_cli.proofs.Words.{inl, inr, refl, rules}
 use Rattle.index_rules.specs.declared.answer.Answer.TheVariants as answer
 use Rattle.index_desk.proofs.LeavesLemmas.{look_leaves}
 use Rattle.index_cli.proofs.CauseLemmas.{answer_counted, counted_memory, fault_causes, standing_causes}

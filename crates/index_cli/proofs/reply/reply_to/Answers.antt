@@ -1,6 +1,4 @@
-use Rattle.std.proofs.Common.{inl, rules}
-use Rattle.std.proofs.lemmas.Result.{IfOk-weaker}
-use Rattle.index_desk.proofs.LeavesLemmas.{leaves_none}
+use Rattle.index_cli.proofs.Words.{inl, rules, IfOk-weaker, leaves_none}
 use Rattle.index_cli.proofs.Calls.{AsksKept-long, AsksKept-read}
 use Rattle.index_cli.proofs.FaultTexts.{honest_or_mapped}
 use Rattle.index_cli.proofs.Progress.{KeptLineIsAnswered-read}

@@ -1,7 +1,4 @@
-use Rattle.std.proofs.Common.{◌≡◌, refl, rules, Some}
-use Rattle.std.proofs.lemmas.Result.{IfOk-weaker}
-use Rattle.index_desk.proofs.InvariantLemmas.{looks_keep}
-use Rattle.index_json.specs.Line.{line_of}
+use Rattle.index_cli.proofs.Words.{◌≡◌, refl, rules, Some, IfOk-weaker, looks_keep, line_of}
 use Rattle.index_json.specs.declared.line.Line.TheVariants as line
 use Rattle.index_cli.proofs.CauseLemmas.{answer_causes, answer_counted, counted_memory}
 use Rattle.index_cli.proofs.FaultTexts.{call_lasts, honest_or_mapped}

@@ -1,11 +1,8 @@
-use Rattle.std.proofs.Common.{◌≡◌, ◌∙◌, ◌<◌, ℕ, Result, Err, inl, refl, rules, subst, sym}
+use Rattle.index_cli.proofs.Words.{◌≡◌, ◌∙◌, ◌<◌, ℕ, Result, Err, inl, refl, rules, subst, sym, keeps_on, looks_keep, at_desk, AreOn}
+use Rattle.index_cli.proofs.Words.{DeskAnswersConnections}
 use Rattle.index_desk.proofs.LeavesLemmas.{never_fell, none_fell}
-use Rattle.index_desk.proofs.InvariantLemmas.{keeps_on, looks_keep}
 use Rattle.index_cli.specs.declared.end.ServeEnd.{ServeEnd}
-use Rattle.index_http.specs.Steps.{at_desk}
-use Rattle.index_cli.specs.Connections.{AreOn}
 use Rattle.index_cli.specs.Serving.{IsCount}
-use Rattle.index_cli.specs.DeskAnswers.{DeskAnswersConnections}
 use Rattle.index_cli.proofs.CauseLemmas.{failed_since}
 use Rattle.index_cli.proofs.Served.{are_on, are_push}
 use Rattle.index_cli.proofs.WentLemmas.{asks_count, served, served_none, served_push}

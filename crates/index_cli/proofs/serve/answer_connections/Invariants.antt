@@ -1,7 +1,4 @@
-use Rattle.std.proofs.Common.{◌≡◌, true}
-use Rattle.index_desk.specs.Invariants.{KeepsInvariants}
-use Rattle.index_desk.specs.Looks.{NeverFalls}
-use Rattle.index_cli.specs.Causes.{HaveFailed}
+use Rattle.index_cli.proofs.Words.{◌≡◌, true, KeepsInvariants, NeverFalls, HaveFailed}
 use Rattle.index_cli.proofs.Served.{AreSoFar}
 use Rattle.index_cli.proofs.WentLemmas.{ServedSoFar}
 use Rattle.index_cli.proofs.serve.answer_connections.Given as goal

@@ -1,4 +1,4 @@
-use Rattle.std.proofs.Common.{inl, inr}
+use Rattle.index_cli.proofs.Words.{inl, inr}
 use Rattle.index_http.proofs.EndLemmas.{stands_ends}
 use Rattle.index_http.proofs.Failures.{one_later}
 use Rattle.index_cli.proofs.ExchangeCauses.{has_cause}

@@ -1,13 +1,9 @@
-use Rattle.std.proofs.Common.{◌≡◌, ◌∙◌, ap, inl, rules, subst, sym, refl, Some, None}
+use Rattle.index_http.proofs.Words.{◌≡◌, ◌∙◌, ap, inl, rules, subst, sym, refl, Some, None, Answer, Lasts, leaves_none, is_head, is_put}
+use Rattle.index_http.proofs.Words.{call_of, answer_reply, reply_text}
 use Rattle.index_rules.specs.Runs.{Answers, tables_after}
 use Rattle.index_rules.specs.Verdict.{Verdict}
-use Rattle.index_rules.specs.declared.answer.Answer.{Answer}
 use Rattle.index_rules.specs.declared.answer.Answer.TheVariants.{Accepted, Already, Refused, Fault}
-use Rattle.index_desk.specs.Crashes.{Lasts}
-use Rattle.index_desk.proofs.LeavesLemmas.{leaves_none}
-use Rattle.index_message.specs.Resources.{is_head, is_put}
-use Rattle.index_http.specs.Exchanges.{call_of}
-use Rattle.index_http.specs.Replies.{answer_reply, reply_of, reply_text}
+use Rattle.index_http.specs.Replies.{reply_of}
 use Rattle.index_http.specs.Sends.{SendsBytes}
 use Rattle.index_http.proofs.EndLemmas.{sent_ends, sent_memory}
 use Rattle.index_http.proofs.Failures.{answer_lasts}

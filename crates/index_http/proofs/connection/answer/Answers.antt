@@ -1,8 +1,5 @@
-use Rattle.std.proofs.Common.{◌≡◌, ◌∙◌, ap, false, inl, refl, rules, sym, true}
-use Rattle.index_desk.proofs.LeavesLemmas.{leaves_none}
-use Rattle.index_message.specs.Resources.{is_reading}
+use Rattle.index_http.proofs.Words.{◌≡◌, ◌∙◌, ap, false, inl, refl, rules, sym, true, leaves_none, is_reading, reply_text}
 use Rattle.index_http.specs.Ends.{Stands}
-use Rattle.index_http.specs.Replies.{reply_text}
 use Rattle.index_http.proofs.AnswerLemmas.{look_ends}
 use Rattle.index_http.proofs.EndLemmas.{sent_ends, sent_memory}
 use Rattle.index_http.proofs.Failures.{look_lasts}

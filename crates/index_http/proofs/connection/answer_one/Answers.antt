@@ -1,11 +1,8 @@
-use Rattle.std.proofs.Common.{inl, inr, ap, rules, subst, sym}
-use Rattle.index_message.specs.Messages.{IsMessage}
+use Rattle.index_http.proofs.Words.{inl, inr, ap, rules, subst, sym, IsMessage, by_tables, InputGetsText, at_desk}
 use Rattle.index_rules.proofs.StandsOn.{sound_when_legal}
 use Rattle.index_message.proofs.MessageLemmas.{whole_has_head}
-use Rattle.index_desk.specs.Rules.{by_tables}
 use Rattle.index_http.specs.Ends.{DeskRepliesByTables}
-use Rattle.index_http.specs.Exchanges.{InputGetsText}
-use Rattle.index_http.specs.Steps.{at_desk, to_sink}
+use Rattle.index_http.specs.Steps.{to_sink}
 use Rattle.index_http.proofs.EndLemmas.{ends_map, fault_or_request, has_page, stands_ends}
 use Rattle.index_http.proofs.Failures.{failure_map}
 use Rattle.index_http.proofs.Histories.{reply_ends_by_history}

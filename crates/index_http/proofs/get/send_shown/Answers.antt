@@ -1,5 +1,4 @@
-use Rattle.std.proofs.Common.{inl, refl}
-use Rattle.index_desk.proofs.LeavesLemmas.{leaves_none}
+use Rattle.index_http.proofs.Words.{inl, refl, leaves_none}
 use Rattle.index_http.proofs.EndLemmas.{ends_shown_map, sent_memory, shown_ends, shown_map}
 use Rattle.index_http.proofs.Failures.{lasts_map}
 use Rattle.index_http.proofs.ShowLemmas.{project_shown}

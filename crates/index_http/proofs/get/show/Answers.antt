@@ -1,6 +1,4 @@
-use Rattle.std.proofs.Common.{◌≡◌, ◌∙◌, ap, inr, rules}
-use Rattle.index_desk.proofs.LeavesLemmas.{look_leaves}
-use Rattle.index_message.specs.Resources.{is_head}
+use Rattle.index_http.proofs.Words.{◌≡◌, ◌∙◌, ap, inr, rules, look_leaves, is_head}
 use Rattle.index_http.proofs.EndLemmas.{fault_ends, fault_stores}
 use Rattle.index_http.proofs.Failures.{look_failed}
 use Rattle.index_http.proofs.ShowLemmas.{found_and_sent}

@@ -1,5 +1,4 @@
-use Rattle.std.proofs.Common.{◌∙◌, ap, inl, inr, sym, refl, Some, None, rules}
-use Rattle.index_desk.proofs.LeavesLemmas.{leaves_none, leaves_on, look_leaves}
+use Rattle.index_http.proofs.Words.{◌∙◌, ap, inl, inr, sym, refl, Some, None, rules, leaves_none, leaves_on, look_leaves}
 use Rattle.index_http.specs.Replies.{file_reply}
 use Rattle.index_http.proofs.EndLemmas.{fault_ends, fault_stores, sent_memory, shown_ends}
 use Rattle.index_http.proofs.Failures.{look_failed}

@@ -1,6 +1,4 @@
-use Rattle.std.proofs.Common.{◌≤◌, inl, inr, refl, sym, length}
-use Rattle.index_desk.proofs.LeavesLemmas.{leaves_none}
-use Rattle.index_pages.specs.Ends.{most_bytes}
+use Rattle.index_http.proofs.Words.{◌≤◌, inl, inr, refl, sym, length, leaves_none, most_bytes}
 use Rattle.index_http.proofs.PassLemmas.{keeps_leaves}
 use Rattle.index_http.proofs.PageLemmas.{less_behind, sends_behind}
 use Rattle.index_http.proofs.page_replies.send_page.Goals as goal

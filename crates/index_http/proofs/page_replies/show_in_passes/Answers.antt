@@ -1,9 +1,5 @@
-use Rattle.std.proofs.Common.{◌≡◌, ◌∙◌, ap, false, inl, inr, refl, rules, subst, Ok, Err}
-use Rattle.std.specs.Prelude.{is_err}
+use Rattle.index_http.proofs.Words.{◌≡◌, ◌∙◌, ap, false, inl, inr, refl, rules, subst, Ok, Err, is_err, leaves_on, page_reply, MeasuresPage}
 use Rattle.index_caching.specs.Pages.{page_in}
-use Rattle.index_desk.proofs.LeavesLemmas.{leaves_on}
-use Rattle.index_http.specs.Replies.{page_reply}
-use Rattle.index_http.specs.PagePasses.{MeasuresPage}
 use Rattle.index_http.proofs.EndLemmas.{fault_ends, fault_memory, sent_memory, shown_ends}
 use Rattle.index_http.proofs.Failures.{less_shows, look_failed}
 use Rattle.index_http.proofs.PassLemmas.{keeps_leaves}

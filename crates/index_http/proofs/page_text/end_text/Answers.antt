@@ -1,5 +1,4 @@
-use Rattle.std.proofs.Common.{◌≡◌, rules, true}
-use Rattle.index_rules.specs.Walks.{has_fault}
+use Rattle.index_http.proofs.Words.{◌≡◌, rules, true, has_fault}
 use Rattle.index_http.proofs.PassLemmas.{cut, finished, goes_on}
 use Rattle.index_http.proofs.page_text.end_text.Goals as goal
 

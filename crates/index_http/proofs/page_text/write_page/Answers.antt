@@ -1,16 +1,10 @@
-use Rattle.std.proofs.Common.{◌≡◌, ◌∙◌, ap, arith, subst, sym, Some}
+use Rattle.index_http.proofs.Words.{◌≡◌, ◌∙◌, ap, arith, subst, sym, Some, option_map, held_rows_in, Walks, FileRow, NameRow, WalksProject}
+use Rattle.index_http.proofs.Words.{project_rows_in, PageStops, PageTakes, state_of, project_page_of, root_page_of, WritesPageText}
+use Rattle.index_http.proofs.Words.{fault_of}
 use Rattle.std.proofs.lemmas.Grind.{common_steps}
-use Rattle.std.specs.Prelude.{List, Option, option_map}
-use Rattle.index_rules.specs.TableRows.{held_rows_in}
-use Rattle.index_rules.specs.Walks.{Walks}
-use Rattle.index_rules.specs.declared.rows.FileRow.{FileRow}
-use Rattle.index_rules.specs.declared.rows.NameRow.{NameRow}
+use Rattle.std.specs.Prelude.{List, Option}
 use Rattle.index_desk.specs.Looks.{HandsThose}
-use Rattle.index_desk.specs.Projects.{WalksProject, project_rows_in}
 use Rattle.index_pages.specs.Left.{files_left, names_left}
-use Rattle.index_pages.specs.States.{PageStops, PageTakes, state_of}
-use Rattle.index_pages.specs.Pages.{project_page_of, root_page_of}
-use Rattle.index_http.specs.PagePasses.{WritesPageText, fault_of}
 use Rattle.index_http.proofs.PassLemmas.{found, reads, root_fault, root_walks, written}
 use Rattle.index_http.proofs.RestLemmas.{project_open, root_open}
 use Rattle.index_http.proofs.page_text.write_page.Goals as goal

@@ -1,4 +1,4 @@
-use Rattle.std.proofs.Common.{arith, Bor, List, ℕ, []}
+use Rattle.index_http.proofs.Words.{arith, Bor, List, ℕ, []}
 use Rattle.index_io.proofs.Pieces.{length-joined-take}
 use Rattle.index_http.proofs.send.length_of.Goals as goal
 

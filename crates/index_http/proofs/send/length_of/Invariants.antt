@@ -1,4 +1,4 @@
-use Rattle.std.proofs.Common.{◌≡◌, length, take}
+use Rattle.index_http.proofs.Words.{◌≡◌, length, take}
 use Rattle.index_io.specs.Bytes.{joined}
 use Rattle.index_http.proofs.send.length_of.Given as goal
 

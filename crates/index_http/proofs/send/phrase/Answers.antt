@@ -1,4 +1,4 @@
-use Rattle.std.proofs.Common.{◌<◌}
+use Rattle.index_http.proofs.Words.{◌<◌}
 use Rattle.index_http.proofs.Lengths.{short_reason}
 use Rattle.index_http.proofs.send.phrase.Goals as goal
 

@@ -1,5 +1,5 @@
-use Rattle.std.proofs.Common.{◌≤◌, ◌<◌, ◌∙◌, arith, rules, length, ap, length-append}
-use Rattle.index_http.specs.Replies.{fields_text, reply_head}
+use Rattle.index_http.proofs.Words.{◌≤◌, ◌<◌, ◌∙◌, arith, rules, length, ap, length-append, reply_head}
+use Rattle.index_http.specs.Replies.{fields_text}
 use Rattle.index_http.proofs.Heads.{length-head_text, reply_is, short_reply}
 use Rattle.index_http.proofs.send.send_parts.Goals as goal
 

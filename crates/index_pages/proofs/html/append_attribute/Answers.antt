@@ -1,4 +1,4 @@
-use Rattle.std.proofs.Common.{append_assoc, refl}
+use Rattle.index_pages.proofs.Words.{append_assoc, refl}
 use Rattle.index_pages.proofs.PieceLemmas.{adds_both, adds_same}
 use Rattle.index_pages.proofs.html.append_attribute.Goals as goal
 

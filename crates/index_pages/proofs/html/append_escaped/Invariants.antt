@@ -1,7 +1,5 @@
-use Rattle.std.proofs.Common.{take}
-use Rattle.std.specs.List.{flat_map}
+use Rattle.index_pages.proofs.Words.{take, flat_map, ExtendsText}
 use Rattle.index_pages.specs.Html.{escape_byte}
-use Rattle.index_pages.specs.Pieces.{ExtendsText}
 use Rattle.index_pages.proofs.html.append_escaped.Given as goal
 
 -- the bytes so far were added

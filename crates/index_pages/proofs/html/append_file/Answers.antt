@@ -1,7 +1,5 @@
-use Rattle.std.proofs.Common.{◌≡◌, ◌∙◌, ◌++◌, codes, refl}
-use Rattle.index_rules.specs.Maps.{Bytes}
-use Rattle.index_rules.specs.declared.rows.FileRow.{FileRow}
-use Rattle.index_pages.specs.Html.{file_anchor, reference, requires_attribute, yanked_attribute}
+use Rattle.index_pages.proofs.Words.{◌≡◌, ◌∙◌, ◌++◌, codes, refl, Bytes, FileRow, file_anchor, reference}
+use Rattle.index_pages.specs.Html.{requires_attribute, yanked_attribute}
 use Rattle.index_pages.proofs.PieceLemmas.{adds_both, adds_same}
 use Rattle.index_pages.proofs.html.append_file.Goals as goal
 

@@ -1,5 +1,4 @@
-use Rattle.std.proofs.Common.{append_assoc, refl}
-use Rattle.index_pages.specs.Html.{name_anchor}
+use Rattle.index_pages.proofs.Words.{append_assoc, refl, name_anchor}
 use Rattle.index_pages.proofs.PieceLemmas.{adds_both, adds_same}
 use Rattle.index_pages.proofs.html.append_name.Goals as goal
 

@@ -1,7 +1,4 @@
-use Rattle.std.proofs.Common.{◌≡◌, ◌∙◌, ◌++◌, ap, append_assoc, codes}
-use Rattle.index_digest.specs.Digest.{text_of}
-use Rattle.index_rules.specs.Maps.{Bytes}
-use Rattle.index_pages.specs.Html.{reference}
+use Rattle.index_pages.proofs.Words.{◌≡◌, ◌∙◌, ◌++◌, ap, append_assoc, codes, text_of, Bytes, reference}
 use Rattle.index_pages.proofs.PieceLemmas.{adds_both, adds_same}
 use Rattle.index_pages.proofs.html.append_reference.Goals as goal
 

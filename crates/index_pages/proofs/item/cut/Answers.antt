@@ -1,4 +1,5 @@
-use Rattle.std.proofs.Common.{◌≡◌, arith, length, ◌-◌, ◌+◌, drop, add-one, length-drop}
+use Rattle.index_pages.proofs.Words.{◌≡◌, arith, length, ◌-◌, ◌+◌, drop, add-one}
+use Rattle.std.proofs.Common.{length-drop}
 use Rattle.std.proofs.lemmas.List.{take_all}
 use Rattle.index_pages.proofs.CutLemmas.{cut_at-none, cut_at-found}
 use Rattle.index_pages.proofs.item.cut.Goals as goal

@@ -1,4 +1,4 @@
-use Rattle.std.proofs.Common.{◌-◌, ◌≤◌, length}
+use Rattle.index_pages.proofs.Words.{◌-◌, ◌≤◌, length}
 use Rattle.index_pages.proofs.CutLemmas.{Lacks}
 use Rattle.index_pages.proofs.item.cut.Given as goal
 

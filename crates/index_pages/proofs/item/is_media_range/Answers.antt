@@ -1,6 +1,4 @@
-use Rattle.std.proofs.Common.{◌≡◌, sym, ◌∷◌}
-use Rattle.std.specs.Str.{byte}
-use Rattle.index_pages.specs.Accept.{cut_at}
+use Rattle.index_pages.proofs.Words.{◌≡◌, sym, ◌∷◌, byte, cut_at}
 use Rattle.index_pages.proofs.CutLemmas.{are_two-three}
 use Rattle.index_pages.proofs.item.is_media_range.Goals as goal
 

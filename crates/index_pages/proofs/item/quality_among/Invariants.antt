@@ -1,5 +1,4 @@
-use Rattle.std.proofs.Common.{◌≡◌, ◌+◌, length}
-use Rattle.std.specs.Option.{option_map_or}
+use Rattle.index_pages.proofs.Words.{◌≡◌, ◌+◌, length, option_map_or}
 use Rattle.index_pages.specs.Accept.{first_quality}
 use Rattle.index_pages.specs.Tally.{pieces_left}
 use Rattle.index_pages.proofs.item.quality_among.Given as goal

@@ -1,6 +1,5 @@
-use Rattle.std.proofs.Common.{◌≡◌, length}
+use Rattle.index_pages.proofs.Words.{◌≡◌, length, skip_blanks}
 use Rattle.std.specs.Prelude.{reverse}
-use Rattle.index_pages.specs.Accept.{skip_blanks}
 use Rattle.index_pages.proofs.item.trim_end.Given as goal
 
 abbrev pub invariant-loop-rest : goal.invariant-loop-rest

@@ -1,5 +1,4 @@
-use Rattle.std.proofs.Common.{◌≡◌, length}
-use Rattle.index_pages.specs.Accept.{skip_blanks}
+use Rattle.index_pages.proofs.Words.{◌≡◌, length, skip_blanks}
 use Rattle.index_pages.proofs.item.trim_start.Given as goal
 
 abbrev pub invariant-loop-rest : goal.invariant-loop-rest

@@ -1,5 +1,4 @@
-use Rattle.std.proofs.Common.{◌∙◌, sym, subst}
-use Rattle.index_pages.specs.Pieces.{Adds}
+use Rattle.index_pages.proofs.Words.{◌∙◌, sym, subst, Adds}
 use Rattle.index_pages.proofs.EscapeLemmas.{escape-plain}
 use Rattle.index_pages.proofs.json_parts.append_json_escaped.Goals as goal
 

@@ -1,6 +1,4 @@
-use Rattle.std.proofs.Common.{take}
-use Rattle.json.specs.Print.{escape}
-use Rattle.index_pages.specs.Pieces.{ExtendsText}
+use Rattle.index_pages.proofs.Words.{take, escape, ExtendsText}
 use Rattle.index_pages.proofs.json_parts.append_json_escaped.Given as goal
 
 -- the bytes so far were added

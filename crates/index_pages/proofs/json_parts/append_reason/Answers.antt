@@ -1,5 +1,4 @@
-use Rattle.std.proofs.Common.{◌≡◌, ◌==◌, false, length, rules, subst}
-use Rattle.index_pages.specs.Pieces.{Adds}
+use Rattle.index_pages.proofs.Words.{◌≡◌, ◌==◌, false, length, rules, subst, Adds}
 use Rattle.index_pages.proofs.JsonLemmas.{reason-text}
 use Rattle.index_pages.proofs.json_parts.append_reason.Goals as goal
 

@@ -1,4 +1,4 @@
-use Rattle.std.proofs.Common.{◌≡◌, ◌==◌, false, length, rules}
+use Rattle.index_pages.proofs.Words.{◌≡◌, ◌==◌, false, length, rules}
 use Rattle.index_pages.proofs.JsonLemmas.{requires-text}
 use Rattle.index_pages.proofs.PieceLemmas.{adds_both, adds_same}
 use Rattle.index_pages.proofs.json_parts.append_requires.Goals as goal

@@ -1,6 +1,4 @@
-use Rattle.std.proofs.Common.{◌≡◌, take}
-use Rattle.std.specs.List.{list_all}
-use Rattle.json.specs.Run.{is_plain}
+use Rattle.index_pages.proofs.Words.{◌≡◌, take, list_all, is_plain}
 use Rattle.index_pages.proofs.json_parts.is_plain.Given as goal
 
 -- the bytes so far need no escape

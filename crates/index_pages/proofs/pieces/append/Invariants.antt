@@ -1,6 +1,5 @@
-use Rattle.std.proofs.Common.{take}
+use Rattle.index_pages.proofs.Words.{take, ExtendsText}
 use Rattle.index_pages.specs.Html.{text_of_pieces}
-use Rattle.index_pages.specs.Pieces.{ExtendsText}
 use Rattle.index_pages.proofs.pieces.append.Given as goal
 
 -- the pieces so far were added

@@ -1,5 +1,4 @@
-use Rattle.std.proofs.Common.{refl}
-use Rattle.index_pages.specs.Parts.{files_bottom}
+use Rattle.index_pages.proofs.Words.{refl, files_bottom}
 use Rattle.index_pages.proofs.PieceLemmas.{adds_both, adds_same}
 use Rattle.index_pages.proofs.project.append_files_bottom.Goals as goal
 

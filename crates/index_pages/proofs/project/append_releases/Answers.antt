@@ -1,6 +1,4 @@
-use Rattle.std.proofs.Common.{◌≡◌, ◌∙◌, ◌∷◌, ◌++◌, rules}
-use Rattle.serde_json.specs.Written.{comma_if}
-use Rattle.index_pages.specs.Parts.{json_text}
+use Rattle.index_pages.proofs.Words.{◌≡◌, ◌∙◌, ◌∷◌, ◌++◌, rules, comma_if, json_text}
 use Rattle.index_pages.proofs.JsonLemmas.{releases-next}
 use Rattle.index_pages.proofs.PieceLemmas.{adds_both}
 use Rattle.index_pages.proofs.project.append_releases.Goals as goal

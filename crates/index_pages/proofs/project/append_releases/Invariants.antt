@@ -1,7 +1,4 @@
-use Rattle.std.proofs.Common.{◌≡◌, ◌++◌, false}
-use Rattle.index_rules.specs.Maps.{Bytes}
-use Rattle.index_pages.specs.Parts.{releases_text}
-use Rattle.index_pages.specs.Pieces.{ExtendsText}
+use Rattle.index_pages.proofs.Words.{◌≡◌, ◌++◌, false, Bytes, releases_text, ExtendsText}
 use Rattle.index_pages.proofs.project.append_releases.Given as goal
 
 -- the text so far, and that of the releases that are left

@@ -1,4 +1,4 @@
-use Rattle.std.proofs.Common.{refl}
+use Rattle.index_pages.proofs.Words.{refl}
 use Rattle.index_pages.proofs.JsonLemmas.{name_text-is}
 use Rattle.index_pages.proofs.PieceLemmas.{adds_both, adds_same}
 use Rattle.index_pages.proofs.root.append_json_name.Goals as goal

@@ -1,4 +1,4 @@
-use Rattle.std.proofs.Common.{◌≡◌, []}
+use Rattle.index_pages.proofs.Words.{◌≡◌, []}
 use Rattle.index_pages.proofs.text.send_last.Goals as goal
 
 pub returns-in-Ok : goal.returns-in-Ok

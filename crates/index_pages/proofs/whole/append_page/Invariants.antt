@@ -1,4 +1,4 @@
-use Rattle.std.proofs.Common.{◌≡◌, ◌++◌, drop}
+use Rattle.index_pages.proofs.Words.{◌≡◌, ◌++◌, drop}
 use Rattle.index_pages.proofs.whole.append_page.Given as goal
 
 -- the text so far, and what is still to be written by the rows that are left

@@ -1,4 +1,4 @@
-use Rattle.std.proofs.Common.{◌∙◌, ◌++◌, ap, append_assoc, refl, sym}
+use Rattle.index_pages.proofs.Words.{◌∙◌, ◌++◌, ap, append_assoc, refl, sym}
 use Rattle.std.proofs.lemmas.Result.{on_ok_weaker}
 use Rattle.index_pages.proofs.whole.append_row.Goals as goal
 

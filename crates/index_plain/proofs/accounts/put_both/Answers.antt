@@ -1,4 +1,4 @@
-use Rattle.std.proofs.Common.{None, sym, ◌∙◌}
+use Rattle.index_plain.proofs.Words.{None, sym, ◌∙◌}
 use Rattle.index_rules.proofs.OwnerLists.{pair_total, exact_pair}
 use Rattle.index_plain.proofs.TreeLemmas.{take_back}
 use Rattle.index_plain.proofs.accounts.put_both.Goals as goal

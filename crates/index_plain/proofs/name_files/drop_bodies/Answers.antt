@@ -1,10 +1,5 @@
-use Rattle.std.proofs.Common.{ap, ◌∙◌, not, rules}
-use Rattle.std.specs.FinMap.{from_entries}
-use Rattle.std.proofs.lemmas.Cmp.{nat_list_cmp_total}
-use Rattle.std.proofs.lemmas.Map.Lookups.{exact_bytes}
+use Rattle.index_plain.proofs.Words.{ap, ◌∙◌, not, rules, from_entries, nat_list_cmp_total, exact_bytes, map_of, Bytes, bytes_cmp}
 use Rattle.std.proofs.lemmas.Map.Made.{filter_same_pairs}
-use Rattle.index_plain.specs.Trees.{map_of}
-use Rattle.index_rules.specs.Maps.{Bytes, bytes_cmp}
 use Rattle.index_rules.specs.Effect.{is_file_of}
 use Rattle.index_plain.proofs.ValueLemmas.{from_kept}
 use Rattle.index_plain.proofs.name_files.drop_bodies.Goals as goal

@@ -1,12 +1,8 @@
-use Rattle.std.proofs.Common.{sym, ap, ◌∙◌, rules, tests}
-use Rattle.std.specs.List.{list_any}
-use Rattle.std.proofs.lemmas.Cmp.{nat_list_cmp_total}
-use Rattle.std.proofs.lemmas.Map.Lookups.{exact_bytes}
+use Rattle.index_plain.proofs.Words.{sym, ap, ◌∙◌, rules, list_any, nat_list_cmp_total, exact_bytes, FileRecord, Bytes}
+use Rattle.std.proofs.Common.{tests}
 use Rattle.std.proofs.lemmas.Iterator.Consumers.{YieldsList-from_rest}
 use Rattle.std.proofs.lemmas.Iterator.Search.{any_from_yields_List}
-use Rattle.index_rules.specs.declared.records.FileRecord.{FileRecord}
 use Rattle.index_rules.specs.Facts.{is_undeleted_of_release}
-use Rattle.index_rules.specs.Maps.{Bytes}
 use Rattle.index_plain.proofs.TreeLemmas.{entries_map}
 use Rattle.index_plain.proofs.name_files.has_undeleted.Goals as goal
 

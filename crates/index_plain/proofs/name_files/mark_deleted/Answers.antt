@@ -1,9 +1,5 @@
-use Rattle.std.proofs.Common.{ap, ◌∙◌, rules}
-use Rattle.std.specs.FinMap.{from_entries}
-use Rattle.std.proofs.lemmas.Cmp.{nat_list_cmp_total}
-use Rattle.std.proofs.lemmas.Map.Lookups.{exact_bytes}
+use Rattle.index_plain.proofs.Words.{ap, ◌∙◌, rules, from_entries, nat_list_cmp_total, exact_bytes, bytes_cmp}
 use Rattle.std.proofs.lemmas.Map.Made.{map_same_pairs}
-use Rattle.index_rules.specs.Maps.{bytes_cmp}
 use Rattle.index_rules.specs.Effect.{as_deleted_of}
 use Rattle.index_plain.proofs.ValueLemmas.{from_changed}
 use Rattle.index_plain.proofs.name_files.mark_deleted.Goals as goal

@@ -1,6 +1,4 @@
-use Rattle.std.proofs.Common.{sym, ap, ◌∙◌, option_copied}
-use Rattle.std.specs.FinMap.{get, get-empty}
-use Rattle.index_plain.specs.Trees.{map_of}
+use Rattle.index_plain.proofs.Words.{sym, ap, ◌∙◌, option_copied, get, get-empty, map_of}
 use Rattle.index_plain.proofs.PairLemmas.{get_pairs, inner_of}
 use Rattle.index_plain.proofs.pairs.find.Goals as goal
 

@@ -1,6 +1,4 @@
-use Rattle.std.proofs.Common.{sym, ap, ◌∙◌, Option, Some, None, MatchOption, option_copied, is_some}
-use Rattle.std.specs.FinMap.{get, get-empty}
-use Rattle.index_plain.specs.Trees.{map_of}
+use Rattle.index_plain.proofs.Words.{sym, ap, ◌∙◌, Option, Some, None, MatchOption, option_copied, is_some, get, get-empty, map_of}
 use Rattle.index_plain.proofs.PairLemmas.{nothing_at, some_at}
 use Rattle.index_plain.proofs.pairs.first_at.Goals as goal
 

@@ -1,9 +1,5 @@
-use Rattle.std.proofs.Common.{sym, ap, ◌∙◌, is_some}
-use Rattle.std.specs.Option.{option_copied_mut}
-use Rattle.std.specs.FinMap.{insert}
-use Rattle.std.proofs.lemmas.Result.{on_ok_weaker, on_err_weaker}
-use Rattle.index_plain.specs.Trees.{map_of}
-use Rattle.index_plain.specs.Pairs.{pairs_of, without_first}
+use Rattle.index_plain.proofs.Words.{sym, ap, ◌∙◌, is_some, option_copied_mut, insert, on_ok_weaker, map_of, pairs_of, without_first}
+use Rattle.std.proofs.lemmas.Result.{on_err_weaker}
 use Rattle.index_plain.proofs.TreeLemmas.{get_map, map_insert}
 use Rattle.index_plain.proofs.PairLemmas.{inner_of, pairs_put, pairs_same, without_absent}
 use Rattle.index_plain.proofs.pairs.put.Goals as goal

@@ -1,6 +1,4 @@
-use Rattle.std.proofs.Common.{rules}
-use Rattle.std.proofs.lemmas.Result.{on_ok_weaker}
-use Rattle.index_plain.specs.Trees.{map_of}
+use Rattle.index_plain.proofs.Words.{rules, on_ok_weaker, map_of}
 use Rattle.index_plain.proofs.PairLemmas.{pairs_alone}
 use Rattle.index_plain.proofs.pairs.put_alone.Goals as goal
 

@@ -1,5 +1,4 @@
-use Rattle.std.proofs.Common.{◌≡◌, not, false, sym, ap, ◌∙◌, Option, Some, None, MatchOption, is_some}
-use Rattle.std.proofs.lemmas.Bool.{false≢true}
+use Rattle.index_plain.proofs.Words.{◌≡◌, not, false, sym, ap, ◌∙◌, Option, Some, None, MatchOption, is_some, false≢true}
 use Rattle.index_plain.proofs.PairLemmas.{without_nothing}
 use Rattle.index_plain.proofs.pairs.remove.Goals as goal
 

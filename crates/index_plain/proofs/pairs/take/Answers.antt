@@ -1,8 +1,4 @@
-use Rattle.std.proofs.Common.{sym, ap, ◌∙◌, is_some}
-use Rattle.std.specs.Option.{option_copied_mut}
-use Rattle.std.specs.FinMap.{remove}
-use Rattle.index_plain.specs.Trees.{map_of}
-use Rattle.index_plain.specs.Pairs.{pairs_of}
+use Rattle.index_plain.proofs.Words.{sym, ap, ◌∙◌, is_some, option_copied_mut, remove, map_of, pairs_of}
 use Rattle.index_plain.proofs.TreeLemmas.{get_map, map_insert}
 use Rattle.index_plain.proofs.PairLemmas.{inner_of, pairs_take, pairs_absent}
 use Rattle.index_plain.proofs.pairs.take.Goals as goal

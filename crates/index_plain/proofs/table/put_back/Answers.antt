@@ -1,5 +1,4 @@
-use Rattle.std.proofs.Common.{sym, ap, ◌∙◌, is_some}
-use Rattle.index_plain.specs.Trees.{map_of, with_at}
+use Rattle.index_plain.proofs.Words.{sym, ap, ◌∙◌, is_some, map_of, with_at}
 use Rattle.index_plain.proofs.TreeLemmas.{get_map, map_insert}
 use Rattle.index_plain.proofs.table.put_back.Goals as goal
 

@@ -1,4 +1,4 @@
-use Rattle.std.proofs.Common.{sym, ap, ◌∙◌, rules}
+use Rattle.index_plain.proofs.Words.{sym, ap, ◌∙◌, rules}
 use Rattle.std.specs.BTreeMap.{get}
 use Rattle.index_plain.proofs.TreeLemmas.{get_map}
 use Rattle.index_plain.proofs.table.replace.Goals as goal

@@ -1,8 +1,4 @@
-use Rattle.std.proofs.Common.{refl, subst}
-use Rattle.index_rules.specs.Requests.{keys_of}
-use Rattle.index_rules.specs.Facts.{Facts}
-use Rattle.index_rules.specs.Verdict.{verdict_on}
-use Rattle.index_rules.specs.Effect.{effect}
+use Rattle.index_rules.proofs.Words.{refl, subst, keys_of, Facts, verdict_on, effect}
 use Rattle.index_rules.specs.Decided.{Decides}
 use Rattle.index_rules.proofs.Seen.{facts-seen}
 use Rattle.index_rules.proofs.decision.decide.Goals as goal

@@ -1,4 +1,4 @@
-use Rattle.std.proofs.Common.{sym, subst}
+use Rattle.index_rules.proofs.Words.{sym, subst}
 use Rattle.index_rules.specs.Decided.{DecidesIn}
 use Rattle.index_rules.proofs.decision.decide_on.Goals as goal
 

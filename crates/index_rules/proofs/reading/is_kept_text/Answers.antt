@@ -1,5 +1,4 @@
-use Rattle.std.proofs.Common.{arith}
-use Rattle.std.proofs.lemmas.Bool.Decides.{nat_tests}
+use Rattle.index_rules.proofs.Words.{arith, nat_tests}
 use Rattle.index_rules.proofs.TextLemmas.{is_text-utf8}
 use Rattle.index_rules.proofs.reading.is_kept_text.Goals as goal
 

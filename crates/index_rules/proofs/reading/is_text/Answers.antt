@@ -1,5 +1,4 @@
-use Rattle.std.proofs.Common.{sym, subst}
-use Rattle.std.specs.Str.{IsUtf8}
+use Rattle.index_rules.proofs.Words.{sym, subst, IsUtf8}
 use Rattle.index_rules.proofs.TextLemmas.{is_text-no_utf8}
 use Rattle.index_rules.proofs.reading.is_text.Goals as goal
 

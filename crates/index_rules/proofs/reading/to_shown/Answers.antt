@@ -1,4 +1,4 @@
-use Rattle.std.proofs.Common.{sym, subst}
+use Rattle.index_rules.proofs.Words.{sym, subst}
 use Rattle.std.specs.Str.{IsAscii}
 use Rattle.index_names.proofs.NameLemmas.{read_name-ascii}
 use Rattle.index_rules.proofs.reading.to_shown.Goals as goal

@@ -1,5 +1,4 @@
-use Rattle.std.proofs.Common.{sym, subst}
-use Rattle.std.specs.Str.{IsUtf8}
+use Rattle.index_rules.proofs.Words.{sym, subst, IsUtf8}
 use Rattle.index_rules.proofs.TextLemmas.{IsText-from_is_text}
 use Rattle.index_rules.proofs.reading.to_text.Goals as goal
 

@@ -1,9 +1,5 @@
-use Rattle.std.proofs.Common.{◌≡◌, false, rules, subst}
-use Rattle.sqlite.specs.Held.{state}
+use Rattle.index_sql_opening.proofs.Words.{◌≡◌, false, rules, subst, state, IsSound, index_schema, first_version_schema}
 use Rattle.sqlite.specs.State.{IsLive}
-use Rattle.sqlite_catalog.specs.Listing.{IsSound}
-use Rattle.index_sql_schema.specs.Schema.{index_schema}
-use Rattle.index_sql_schema.specs.FirstVersion.{first_version_schema}
 use Rattle.index_sql_opening.proofs.RowidLemmas.{numbered_from}
 use Rattle.index_sql_opening.proofs.connections.expose_invariants.Goals as goal
 

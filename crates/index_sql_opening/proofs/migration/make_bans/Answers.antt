@@ -1,5 +1,4 @@
-use Rattle.index_sql_schema.specs.FirstVersion.{first_version_schema}
-use Rattle.index_sql_schema.specs.TableTexts.{bans_text}
+use Rattle.index_sql_opening.proofs.Words.{first_version_schema, bans_text}
 use Rattle.index_sql_opening.proofs.MigrationLemmas.{bans_made, bans_sure}
 use Rattle.index_sql_opening.proofs.NewAskLemmas.{text_taken}
 use Rattle.index_sql_opening.proofs.migration.make_bans.Goals as goal

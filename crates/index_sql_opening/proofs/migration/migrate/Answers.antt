@@ -1,11 +1,7 @@
-use Rattle.std.proofs.Common.{arith, rules}
-use Rattle.sqlite.specs.Held.{state}
-use Rattle.sqlite.specs.State.{HasCleanDisk}
-use Rattle.index_sql_opening.specs.Migrated.{IsMigrating, asks_of_migration}
+use Rattle.index_sql_opening.proofs.Words.{arith, rules, state, HasCleanDisk, IsMigrating, FailsForRefusal, at_exit, fails_inside}
+use Rattle.index_sql_opening.proofs.Words.{fails_to_commit, Unlimited}
+use Rattle.index_sql_opening.specs.Migrated.{asks_of_migration}
 use Rattle.index_sql_opening.proofs.MigrationLemmas.{begins_first}
-use Rattle.index_sql_writes.specs.StepAsks.{FailsForRefusal}
-use Rattle.index_sql_writes.proofs.StepAskLemmas.{at_exit, fails_inside, fails_to_commit}
-use Rattle.index_sql_opening.specs.NewAsks.{Unlimited}
 use Rattle.index_sql_opening.proofs.migration.migrate.Goals as goal
 
 pub returns-in_err-migrate_tables : goal.returns-in_err-migrate_tables

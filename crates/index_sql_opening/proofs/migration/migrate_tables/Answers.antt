@@ -1,12 +1,6 @@
-use Rattle.std.proofs.Common.{[], ◌∷◌, ◌∙◌}
-use Rattle.index_sql_schema.specs.FirstVersion.{without_bans}
-use Rattle.index_sql_schema.specs.Index.{raised, same_meta}
-use Rattle.index_sql_schema.specs.StatementTexts.{update_version_text}
-use Rattle.index_sql_schema.specs.TableTexts.{bans_text}
-use Rattle.index_sql_writes.specs.Transaction.{MakesInTransaction}
-use Rattle.index_sql_writes.proofs.InTurn.{makes_then}
-use Rattle.index_sql_writes.proofs.TakenLemmas.{exits, steps_then}
-use Rattle.index_sql_opening.specs.NewAsks.{text_ask}
+use Rattle.index_sql_opening.proofs.Words.{[], ◌∷◌, ◌∙◌, without_bans, same_meta, update_version_text, bans_text, MakesInTransaction}
+use Rattle.index_sql_opening.proofs.Words.{makes_then, exits, steps_then, text_ask}
+use Rattle.index_sql_schema.specs.Index.{raised}
 use Rattle.index_sql_opening.proofs.migration.migrate_tables.Goals as goal
 
 pub returns-in_err-make_bans : goal.returns-in_err-make_bans

@@ -1,8 +1,5 @@
-use Rattle.std.proofs.Common.{[], refl}
-use Rattle.index_sql_schema.specs.Schema.{index_schema}
-use Rattle.index_sql_schema.specs.StatementTexts.{update_version_text}
+use Rattle.index_sql_opening.proofs.Words.{[], refl, index_schema, update_version_text, makes}
 use Rattle.index_sql_schema.proofs.UpdateVersion.{updates}
-use Rattle.index_sql_writes.proofs.StepLemmas.{makes}
 use Rattle.index_sql_opening.proofs.MigrationLemmas.{version_sure}
 use Rattle.index_sql_opening.proofs.NewAskLemmas.{text_taken}
 use Rattle.index_sql_opening.proofs.migration.raise_version.Goals as goal

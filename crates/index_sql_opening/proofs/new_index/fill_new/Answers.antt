@@ -1,10 +1,6 @@
-use Rattle.std.proofs.Common.{arith, rules}
-use Rattle.sqlite.specs.Held.{state}
-use Rattle.sqlite.specs.State.{HasCleanDisk}
-use Rattle.index_sql_schema.specs.CreateSteps.{IsStage}
-use Rattle.index_sql_writes.specs.StepAsks.{FailsForRefusal}
-use Rattle.index_sql_writes.proofs.StepAskLemmas.{at_exit, fails_inside, fails_to_commit}
-use Rattle.index_sql_opening.specs.NewAsks.{Unlimited, asks_of_new}
+use Rattle.index_sql_opening.proofs.Words.{arith, rules, state, HasCleanDisk, IsStage, FailsForRefusal, at_exit, fails_inside}
+use Rattle.index_sql_opening.proofs.Words.{fails_to_commit, Unlimited}
+use Rattle.index_sql_opening.specs.NewAsks.{asks_of_new}
 use Rattle.index_sql_opening.proofs.NewAskLemmas.{begins_blank}
 use Rattle.index_sql_opening.proofs.new_index.fill_new.Goals as goal
 

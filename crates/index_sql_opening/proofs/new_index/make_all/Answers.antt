@@ -1,11 +1,8 @@
-use Rattle.std.proofs.Common.{[], ◌∷◌, ◌++◌, ◌∙◌, Ok, Err}
+use Rattle.index_sql_opening.proofs.Words.{[], ◌∷◌, ◌++◌, ◌∙◌, Ok, Err, MakesInTransaction, put_user_ask, makes_then, exits, steps_then}
+use Rattle.index_sql_opening.proofs.Words.{table_asks, one_user}
 use Rattle.index_sql_schema.specs.Index.{with_version}
-use Rattle.index_sql_writes.specs.Transaction.{MakesInTransaction}
-use Rattle.index_sql_writes.specs.Statements.{put_user_ask}
-use Rattle.index_sql_writes.proofs.InTurn.{makes_then}
-use Rattle.index_sql_writes.proofs.TakenLemmas.{exits, steps_then}
-use Rattle.index_sql_opening.specs.NewAsks.{put_version_ask, table_asks}
-use Rattle.index_sql_opening.specs.Created.{one_user, one_version_row}
+use Rattle.index_sql_opening.specs.NewAsks.{put_version_ask}
+use Rattle.index_sql_opening.specs.Created.{one_version_row}
 use Rattle.index_sql_opening.proofs.NewAskLemmas.{first_user}
 use Rattle.index_sql_opening.proofs.new_index.make_all.Goals as goal
 

@@ -1,9 +1,5 @@
-use Rattle.std.proofs.Common.{[], ◌∷◌, pos, refl, rules}
-use Rattle.sqlite_value.specs.declared.value.Value.TheVariants.{Int}
-use Rattle.index_sql_schema.specs.Schema.{index_schema}
-use Rattle.index_sql_schema.specs.StatementTexts.{put_version_text}
+use Rattle.index_sql_opening.proofs.Words.{[], ◌∷◌, pos, refl, rules, Int, index_schema, put_version_text, makes}
 use Rattle.index_sql_schema.proofs.PutVersion.{puts}
-use Rattle.index_sql_writes.proofs.StepLemmas.{makes}
 use Rattle.index_sql_opening.proofs.NewAskLemmas.{taken}
 use Rattle.index_sql_opening.proofs.SureTexts.{version_sure}
 use Rattle.index_sql_opening.proofs.new_index.put_version.Goals as goal

@@ -1,6 +1,4 @@
-use Rattle.std.proofs.Common.{◌∙◌}
-use Rattle.sqlite.proofs.Callers.{memory_is_clean}
-use Rattle.index_sql_schema.proofs.BanTable.{first_eight}
+use Rattle.index_sql_opening.proofs.Words.{◌∙◌, memory_is_clean, first_eight}
 use Rattle.index_sql_opening.proofs.recognition.first_version_in_memory.Goals as goal
 
 pub returns : goal.returns

@@ -1,5 +1,4 @@
-use Rattle.std.proofs.Common.{◌∙◌}
-use Rattle.sqlite.proofs.Callers.{memory_is_clean}
+use Rattle.index_sql_opening.proofs.Words.{◌∙◌, memory_is_clean}
 use Rattle.index_sql_schema.proofs.CreateLemmas.{all_made}
 use Rattle.index_sql_opening.proofs.recognition.index_in_memory.Goals as goal
 

@@ -1,5 +1,4 @@
-use Rattle.index_sql_writes.proofs.TakenLemmas.{exits}
-use Rattle.index_sql_opening.specs.NewAsks.{table_asks}
+use Rattle.index_sql_opening.proofs.Words.{exits, table_asks}
 use Rattle.index_sql_opening.proofs.NewAskLemmas.{more_tables}
 use Rattle.index_sql_opening.proofs.tables.make_first_version.Goals as goal
 

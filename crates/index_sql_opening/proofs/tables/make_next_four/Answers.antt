@@ -1,7 +1,4 @@
-use Rattle.std.proofs.Common.{[], ◌∷◌, Ok, Err, refl}
-use Rattle.index_sql_schema.specs.TableTexts.{files_text, blobs_text, yanks_text, cases_text}
-use Rattle.index_sql_writes.proofs.TakenLemmas.{exits}
-use Rattle.index_sql_opening.specs.NewAsks.{text_ask}
+use Rattle.index_sql_opening.proofs.Words.{[], ◌∷◌, Ok, Err, refl, files_text, blobs_text, yanks_text, cases_text, exits, text_ask}
 use Rattle.index_sql_opening.proofs.NewAskLemmas.{more_tables}
 use Rattle.index_sql_opening.proofs.tables.make_next_four.Goals as goal
 

@@ -1,4 +1,4 @@
-use Rattle.index_sql_schema.specs.CreateSteps.{stage}
+use Rattle.index_sql_opening.proofs.Words.{stage}
 use Rattle.index_sql_schema.proofs.CreateLemmas.{stage_step}
 use Rattle.index_sql_opening.proofs.NewAskLemmas.{text_taken}
 use Rattle.index_sql_opening.proofs.SureTexts.{table_sure}

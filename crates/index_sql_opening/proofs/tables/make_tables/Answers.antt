@@ -1,6 +1,4 @@
-use Rattle.std.proofs.Common.{refl}
-use Rattle.index_sql_writes.proofs.TakenLemmas.{exits}
-use Rattle.index_sql_opening.specs.NewAsks.{table_asks}
+use Rattle.index_sql_opening.proofs.Words.{refl, exits, table_asks}
 use Rattle.index_sql_opening.proofs.NewAskLemmas.{more_tables}
 use Rattle.index_sql_opening.proofs.tables.make_tables.Goals as goal
 

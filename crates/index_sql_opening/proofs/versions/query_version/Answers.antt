@@ -1,6 +1,4 @@
-use Rattle.std.proofs.Common.{[], ap, ◌∙◌, sym, rules}
-use Rattle.index_sql_schema.specs.StatementTexts.{select_version_text}
-use Rattle.index_sql_opening.specs.Versions.{first_number}
+use Rattle.index_sql_opening.proofs.Words.{[], ap, ◌∙◌, sym, rules, select_version_text, first_number}
 use Rattle.index_sql_opening.proofs.LookLemmas.{fails_inside, refused_keeps, shown_keeps}
 use Rattle.index_sql_opening.proofs.versions.query_version.Goals as goal
 

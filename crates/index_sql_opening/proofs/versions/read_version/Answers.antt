@@ -1,9 +1,5 @@
-use Rattle.std.proofs.Common.{[], rules, ap, ◌∙◌, sym}
-use Rattle.sqlite.specs.Held.{state}
-use Rattle.index_sql_schema.proofs.StayLemmas.{shown_open}
+use Rattle.index_sql_opening.proofs.Words.{[], rules, ap, ◌∙◌, sym, state, shown_open, select_version_text, first_number}
 use Rattle.index_sql_schema.proofs.SelectVersion as select_version
-use Rattle.index_sql_schema.specs.StatementTexts.{select_version_text}
-use Rattle.index_sql_opening.specs.Versions.{first_number}
 use Rattle.index_sql_opening.proofs.LookLemmas.{looks_shown, looks_refused}
 use Rattle.index_sql_opening.proofs.SureLemmas.{reasoned}
 use Rattle.index_sql_opening.proofs.versions.read_version.Goals as goal

@@ -1,4 +1,4 @@
-use Rattle.std.proofs.Common.{rules}
+use Rattle.index_sql_opening.proofs.Words.{rules}
 use Rattle.index_sql_opening.proofs.LookLemmas.{looks_dropped}
 use Rattle.index_sql_opening.proofs.versions.told_version.Goals as goal
 

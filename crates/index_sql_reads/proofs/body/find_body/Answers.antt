@@ -1,6 +1,4 @@
-use Rattle.std.proofs.Common.{◌≡◌, option_map, sym, subst₂}
-use Rattle.std.specs.FinMap.{get}
-use Rattle.index_sql_schema.proofs.LookLemmas.{reason_after}
+use Rattle.index_sql_reads.proofs.Words.{◌≡◌, option_map, sym, subst₂, get, reason_after}
 use Rattle.index_sql_reads.specs.Sealed.{IsBoundTo}
 use Rattle.index_sql_reads.proofs.FindsLemmas.{at_exit, never_fails, seen_before}
 use Rattle.index_sql_reads.proofs.body.find_body.Goals as goal

@@ -1,12 +1,8 @@
-use Rattle.std.proofs.Common.{◌≡◌, [], ◌∷◌, rules, option_map, slice_get}
-use Rattle.std.specs.FinMap.{get}
-use Rattle.sqlite_value.specs.declared.value.Value.TheVariants.{Text}
+use Rattle.index_sql_reads.proofs.Words.{◌≡◌, [], ◌∷◌, rules, option_map, slice_get, get, Text, state, shown_open}
 use Rattle.index_sql_schema.specs.Records.{body_in}
 use Rattle.index_sql_schema.specs.RecordRows.{IsBodyRow}
 use Rattle.index_sql_schema.specs.StatementTexts.{select_body_text}
 use Rattle.index_sql_schema.proofs.SelectBody as statement
-use Rattle.sqlite.specs.Held.{state}
-use Rattle.index_sql_schema.proofs.StayLemmas.{shown_open}
 use Rattle.index_sql_reads.proofs.FindsLemmas.{fails_query, finds_read, on_ok}
 use Rattle.index_sql_reads.proofs.body.find_bytes.Goals as goal
 

@@ -1,6 +1,5 @@
-use Rattle.std.proofs.Common.{◌≡◌, IfOk, IfSome, Some, option_map, subst, subst₂, sym}
-use Rattle.std.specs.FinMap.{get}
-use Rattle.index_sql_schema.proofs.LookLemmas.{reason_after}
+use Rattle.index_sql_reads.proofs.Words.{◌≡◌, IfOk, Some, option_map, subst, subst₂, sym, get, reason_after}
+use Rattle.std.proofs.Common.{IfSome}
 use Rattle.index_sql_reads.specs.Sealed.{IsDeclared}
 use Rattle.index_sql_reads.proofs.FindsLemmas.{at_exit, never_fails, on_ok, seen_before}
 use Rattle.index_sql_reads.proofs.body.find_stored.Goals as goal

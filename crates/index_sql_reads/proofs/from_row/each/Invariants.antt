@@ -1,4 +1,4 @@
-use Rattle.std.proofs.Common.{◌≡◌, map, take}
+use Rattle.index_sql_reads.proofs.Words.{◌≡◌, map, take}
 use Rattle.index_sql_reads.proofs.from_row.each.Given as goal
 
 abbrev pub invariant-loop-row : goal.invariant-loop-row

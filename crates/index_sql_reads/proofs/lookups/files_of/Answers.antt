@@ -1,9 +1,4 @@
-use Rattle.std.proofs.Common.{◌≡◌, [], ◌∷◌, rules, map}
-use Rattle.index_rules.specs.TableRows.{file_rows_in}
-use Rattle.sqlite_value.specs.declared.value.Value.TheVariants.{Text}
-use Rattle.index_sql_schema.specs.ShownRows.{file_row_shown}
-use Rattle.index_sql_schema.specs.RecordRows.{IsListedRow}
-use Rattle.index_sql_schema.specs.StatementTexts.{select_files_text}
+use Rattle.index_sql_reads.proofs.Words.{◌≡◌, [], ◌∷◌, rules, map, file_rows_in, Text, file_row_shown, IsListedRow, select_files_text}
 use Rattle.index_sql_schema.proofs.SelectFiles as statement
 use Rattle.index_sql_reads.proofs.FindsLemmas.{fails_query, finds_read}
 use Rattle.index_sql_reads.proofs.lookups.files_of.Goals as goal

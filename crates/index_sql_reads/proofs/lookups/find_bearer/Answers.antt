@@ -1,4 +1,4 @@
-use Rattle.std.proofs.Common.{[], ◌∷◌, rules, option_map, slice_get}
+use Rattle.index_sql_reads.proofs.Words.{[], ◌∷◌, rules, option_map, slice_get}
 use Rattle.index_rules.specs.Facts.{IsBearer}
 use Rattle.sqlite_value.specs.declared.value.Value.TheVariants.{Blob}
 use Rattle.index_sql_schema.specs.ShownRows.{account_in}

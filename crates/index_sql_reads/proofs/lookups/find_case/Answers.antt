@@ -1,6 +1,4 @@
-use Rattle.std.proofs.Common.{◌≡◌, [], ◌∷◌, rules, option_map, slice_get}
-use Rattle.std.specs.FinMap.{get}
-use Rattle.sqlite_value.specs.declared.value.Value.TheVariants.{Text}
+use Rattle.index_sql_reads.proofs.Words.{◌≡◌, [], ◌∷◌, rules, option_map, slice_get, get, Text}
 use Rattle.index_sql_schema.specs.Records.{case_in}
 use Rattle.index_sql_schema.specs.RecordRows.{IsCaseRow}
 use Rattle.index_sql_schema.specs.StatementTexts.{select_case_text}

@@ -1,6 +1,5 @@
-use Rattle.std.proofs.Common.{◌≡◌, [], ◌∷◌, rules, option_map, slice_get}
+use Rattle.index_sql_reads.proofs.Words.{◌≡◌, [], ◌∷◌, rules, option_map, slice_get, Text}
 use Rattle.index_rules.specs.Facts.{yank_in}
-use Rattle.sqlite_value.specs.declared.value.Value.TheVariants.{Text}
 use Rattle.index_sql_schema.specs.Records.{reason_in}
 use Rattle.index_sql_schema.specs.RecordRows.{IsYankRow}
 use Rattle.index_sql_schema.specs.StatementTexts.{select_yank_text}

@@ -1,6 +1,4 @@
-use Rattle.std.proofs.Common.{◌≡◌, [], ◌∷◌, rules, is_some, slice_get}
-use Rattle.sqlite_value.specs.declared.value.Value.TheVariants.{Text}
-use Rattle.index_rules.specs.Facts.{has_release_in}
+use Rattle.index_sql_reads.proofs.Words.{◌≡◌, [], ◌∷◌, rules, is_some, slice_get, Text, has_release_in}
 use Rattle.index_sql_schema.specs.StatementTexts.{select_release_text}
 use Rattle.index_sql_schema.proofs.SelectRelease as statement
 use Rattle.index_sql_reads.proofs.FindsLemmas.{fails_query, finds_told}

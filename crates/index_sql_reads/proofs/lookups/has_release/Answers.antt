@@ -1,5 +1,4 @@
-use Rattle.std.proofs.Common.{◌≡◌, sym}
-use Rattle.index_rules.specs.Facts.{has_release_in}
+use Rattle.index_sql_reads.proofs.Words.{◌≡◌, sym, has_release_in}
 use Rattle.index_sql_reads.proofs.FindsLemmas.{fails_then, finds_as, finds_then}
 use Rattle.index_sql_reads.proofs.lookups.has_release.Goals as goal
 

@@ -1,5 +1,4 @@
-use Rattle.std.proofs.Common.{◌≡◌, ◌∙◌, sym, true}
-use Rattle.index_rules.specs.Facts.{has_release_in}
+use Rattle.index_sql_reads.proofs.Words.{◌≡◌, ◌∙◌, sym, true, has_release_in}
 use Rattle.index_sql_reads.proofs.FindsLemmas.{finds_as}
 use Rattle.index_sql_reads.proofs.ReleaseLemmas.{release_is_there}
 use Rattle.index_sql_reads.proofs.lookups.has_usual_file.Goals as goal

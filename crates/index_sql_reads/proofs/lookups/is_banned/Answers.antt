@@ -1,5 +1,4 @@
-use Rattle.std.proofs.Common.{◌≡◌, [], ◌∷◌, rules, is_some, slice_get, sym, ap, ◌∙◌}
-use Rattle.sqlite_value.specs.declared.value.Value.TheVariants.{Text}
+use Rattle.index_sql_reads.proofs.Words.{◌≡◌, [], ◌∷◌, rules, is_some, slice_get, sym, ap, ◌∙◌, Text}
 use Rattle.index_rules.specs.Facts.{is_banned_in}
 use Rattle.index_sql_schema.specs.Records.{nothing_in}
 use Rattle.index_sql_schema.specs.StatementTexts.{select_ban_text}

@@ -1,7 +1,5 @@
-use Rattle.std.proofs.Common.{◌≡◌, [], rules, map}
+use Rattle.index_sql_reads.proofs.Words.{◌≡◌, [], rules, map, name_row_in, IsNamedRow}
 use Rattle.index_rules.specs.TableRows.{name_rows_in}
-use Rattle.index_sql_schema.specs.ShownRows.{name_row_in}
-use Rattle.index_sql_schema.specs.RecordRows.{IsNamedRow}
 use Rattle.index_sql_schema.specs.StatementTexts.{select_names_text}
 use Rattle.index_sql_schema.proofs.SelectNames as statement
 use Rattle.index_sql_reads.proofs.FindsLemmas.{fails_query, finds_read}

@@ -1,5 +1,4 @@
-use Rattle.std.proofs.Common.{◌≡◌, [], ◌∷◌, rules, map, ◌∙◌}
-use Rattle.sqlite_value.specs.declared.value.Value.TheVariants.{Text}
+use Rattle.index_sql_reads.proofs.Words.{◌≡◌, [], ◌∷◌, rules, map, ◌∙◌, Text}
 use Rattle.index_rules.specs.Tables.{owners_in}
 use Rattle.index_sql_schema.specs.ShownRows.{user_shown}
 use Rattle.index_sql_schema.specs.RecordRows.{IsOwnerRow}

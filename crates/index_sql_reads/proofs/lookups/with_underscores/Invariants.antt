@@ -1,4 +1,4 @@
-use Rattle.std.proofs.Common.{◌≡◌, map, take}
+use Rattle.index_sql_reads.proofs.Words.{◌≡◌, map, take}
 use Rattle.index_sql_reads.specs.UsualNames.{in_file_name}
 use Rattle.index_sql_reads.proofs.lookups.with_underscores.Given as goal
 

@@ -1,4 +1,4 @@
-use Rattle.std.proofs.Common.{Some}
+use Rattle.index_sql_reads.proofs.Words.{Some}
 use Rattle.index_rules.specs.Seen.{SeesName}
 use Rattle.index_sql_reads.proofs.FindsLemmas.{fails_then, finds_as, finds_then}
 use Rattle.index_sql_reads.proofs.views.see_one_name.Goals as goal

@@ -1,4 +1,4 @@
-use Rattle.std.proofs.Common.{subst}
+use Rattle.index_sql_reads.proofs.Words.{subst}
 use Rattle.index_sql_reads.proofs.WalkLemmas.{stopped}
 use Rattle.index_sql_reads.proofs.walk.hand.Goals as goal
 

@@ -1,10 +1,9 @@
-use Rattle.std.proofs.Common.{◌≡◌, ◌∙◌, [], ◌∷◌, ◌++◌, inl, inr, Ok, Err, rules, sym, subst, arith, length-append}
+use Rattle.index_sql_reads.proofs.Words.{◌≡◌, ◌∙◌, [], ◌∷◌, ◌++◌, inl, inr, Ok, Err, rules, sym, subst, arith, length-append, fault_by}
+use Rattle.index_sql_reads.proofs.Words.{on_store}
 use Rattle.index_rules.specs.declared.answer.Fault.TheVariants as fault
 use Rattle.index_rules.proofs.WalkLemmas.{Walks-then}
 use Rattle.index_rules.specs.Walks.{of_rows, to_taker}
-use Rattle.index_sql_schema.specs.Faults.{fault_by}
 use Rattle.index_sql_reads.specs.Handed.{HasHanded}
-use Rattle.index_sql_schema.specs.OnStore.{on_store}
 use Rattle.index_sql_reads.proofs.WalkLemmas.{fault_told, faulted, faulted_as, last_is}
 use Rattle.index_sql_reads.proofs.QueryLemmas.{gives_on, none_left, query_failed, nothing_done, given_up}
 use Rattle.index_sql_reads.proofs.walk.hand_all.Goals as goal

@@ -1,6 +1,4 @@
-use Rattle.std.proofs.Common.{◌≡◌, List, length}
-use Rattle.sqlite_value.specs.Order.{Row}
-use Rattle.index_rules.specs.Rows.{Took}
+use Rattle.index_sql_reads.proofs.Words.{◌≡◌, List, length, Row, Took}
 use Rattle.index_sql_reads.specs.Handed.{Gives}
 use Rattle.index_sql_reads.proofs.walk.hand_all.Given as goal
 

@@ -1,13 +1,8 @@
-use Rattle.std.proofs.Common.{◌∙◌, [], Err, not, rules, inl, refl, subst, sym}
-use Rattle.sqlite.specs.Held.{state}
-use Rattle.sqlite.specs.State.{HasCleanDisk}
+use Rattle.index_sql_reads.proofs.Words.{◌∙◌, [], Err, not, rules, inl, refl, subst, sym, state, HasCleanDisk, has_fault, is_fault}
+use Rattle.index_sql_reads.proofs.Words.{fault_by, IsIndexConnection, QueriesOnly, clean_before, looks_kept, reasoned, IsGiving, IsOf}
+use Rattle.index_sql_reads.proofs.Words.{QueryEndsForReason, on_store}
 use Rattle.sqlite.specs.Values.{bound}
-use Rattle.index_rules.specs.Walks.{has_fault, is_fault}
-use Rattle.index_sql_schema.specs.Faults.{fault_by}
-use Rattle.index_sql_schema.specs.Looks.{IsIndexConnection, QueriesOnly}
-use Rattle.index_sql_schema.proofs.LookLemmas.{clean_before, looks_kept, looks_refused, reasoned}
-use Rattle.index_sql_reads.specs.Handed.{IsGiving, IsOf, QueryEndsForReason}
-use Rattle.index_sql_schema.specs.OnStore.{on_store}
+use Rattle.index_sql_schema.proofs.LookLemmas.{looks_refused}
 use Rattle.index_sql_reads.proofs.WalkLemmas.{fault_told, faulted_as}
 use Rattle.index_sql_reads.proofs.QueryLemmas.{begins, ends_by, handed_looks, handed_of, looks_faulty}
 use Rattle.index_sql_reads.proofs.walk.walk.Goals as goal

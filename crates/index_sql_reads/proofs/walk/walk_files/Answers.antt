@@ -1,14 +1,6 @@
-use Rattle.std.proofs.Common.{[], ◌∷◌, map, rules, subst}
-use Rattle.sqlite_value.specs.declared.value.Value.TheVariants.{Text}
-use Rattle.index_rules.specs.TableRows.{file_rows_in}
-use Rattle.index_sql_schema.specs.RecordRows.{IsListedRow}
-use Rattle.index_sql_schema.specs.ShownRows.{file_row_shown}
-use Rattle.index_sql_schema.specs.StatementTexts.{select_files_text}
+use Rattle.index_sql_reads.proofs.Words.{[], ◌∷◌, map, rules, subst, Text, file_rows_in, IsListedRow, file_row_shown, select_files_text}
+use Rattle.index_sql_reads.proofs.Words.{known_records, IsSure, IsOf, QueryEndsForReason, on_store}
 use Rattle.index_sql_schema.proofs.SelectFiles.{is_plain, records, selects, sure}
-use Rattle.index_sql_schema.proofs.ShownRecords.{known_records}
-use Rattle.index_sql_schema.specs.Sure.{IsSure}
-use Rattle.index_sql_reads.specs.Handed.{IsOf, QueryEndsForReason}
-use Rattle.index_sql_schema.specs.OnStore.{on_store}
 use Rattle.index_sql_reads.proofs.EndLemmas.{files_ends}
 use Rattle.index_sql_reads.proofs.QueryLemmas.{ends_for, walks_all}
 use Rattle.index_sql_reads.proofs.WalkLemmas.{read_walks}

@@ -1,9 +1,6 @@
-use Rattle.std.proofs.Common.{[], map}
+use Rattle.index_sql_reads.proofs.Words.{[], map, IsNamedRow, name_row_in, select_held_text, held_shown}
 use Rattle.index_rules.specs.TableRows.{held_rows_in}
-use Rattle.index_sql_schema.specs.RecordRows.{IsNamedRow}
-use Rattle.index_sql_schema.specs.ShownRows.{name_row_in}
-use Rattle.index_sql_schema.specs.StatementTexts.{select_held_text}
-use Rattle.index_sql_schema.proofs.SelectNames.{held_shown, selects_held}
+use Rattle.index_sql_schema.proofs.SelectNames.{selects_held}
 use Rattle.index_sql_reads.proofs.EndLemmas.{held_ends}
 use Rattle.index_sql_reads.proofs.HeldLemmas.{records, sure}
 use Rattle.index_sql_reads.proofs.QueryLemmas.{ends_for, walks_all}

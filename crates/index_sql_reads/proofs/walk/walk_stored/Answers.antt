@@ -1,8 +1,6 @@
-use Rattle.std.proofs.Common.{[], map}
-use Rattle.std.specs.FinMap.{entries}
+use Rattle.index_sql_reads.proofs.Words.{[], map, entries, select_bodies_text}
 use Rattle.index_sql_schema.specs.RecordRows.{IsStoredRow}
 use Rattle.index_sql_schema.specs.ShownRows.{stored_in}
-use Rattle.index_sql_schema.specs.StatementTexts.{select_bodies_text}
 use Rattle.index_sql_schema.proofs.SelectBodies.{is_plain, records, selects, sure}
 use Rattle.index_sql_reads.proofs.EndLemmas.{bodies_ends}
 use Rattle.index_sql_reads.proofs.QueryLemmas.{ends_for, stays_open, walks_all}

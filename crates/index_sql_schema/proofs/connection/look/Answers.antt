@@ -1,8 +1,4 @@
-use Rattle.std.proofs.Common.{true, false, sym, ◌∙◌, subst}
-use Rattle.sqlite.specs.Held.{state}
-use Rattle.index_sql_schema.specs.Index.{IsIndex}
-use Rattle.index_sql_schema.specs.Looks.{QueriesOnly}
-use Rattle.index_sql_schema.specs.Reasons.{HasReason}
+use Rattle.index_sql_schema.proofs.Words.{true, false, sym, ◌∙◌, subst, state, IsIndex, QueriesOnly, HasReason}
 use Rattle.index_sql_schema.proofs.LookLemmas.{index_shown, looks_shown, looks_refused, looks_kept, reasoned}
 use Rattle.index_sql_schema.proofs.connection.look.Goals as goal
 

@@ -1,11 +1,5 @@
-use Rattle.std.proofs.Common.{arith, rules}
-use Rattle.index_sql_writes.specs.Asks.{CanAsk}
-use Rattle.sqlite.specs.Held.{state}
-use Rattle.sqlite.specs.State.{HasCleanDisk}
-use Rattle.index_sql_schema.specs.Index.{same_meta}
-use Rattle.index_sql_writes.specs.Changed.{all_of}
+use Rattle.index_sql_writes.proofs.Words.{arith, rules, CanAsk, state, HasCleanDisk, same_meta, all_of, FailsForRefusal, asks_by}
 use Rattle.index_sql_writes.proofs.CommitLemmas.{made_by_commit}
-use Rattle.index_sql_writes.specs.StepAsks.{FailsForRefusal, asks_by}
 use Rattle.index_sql_writes.proofs.StepAskLemmas.{at_exit, begins_fit, fails_inside, fails_to_commit}
 use Rattle.index_sql_writes.proofs.ShutLemmas.{shut_survives}
 use Rattle.index_sql_writes.proofs.change.commit_steps.Goals as goal

@@ -1,4 +1,4 @@
-use Rattle.std.proofs.Common.{inl, inr}
+use Rattle.index_sql_writes.proofs.Words.{inl, inr}
 use Rattle.index_sql_writes.proofs.change.steps_of.Goals as goal
 
 pub returns-in-AddUser : goal.returns-in-AddUser

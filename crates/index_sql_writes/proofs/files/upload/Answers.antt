@@ -1,4 +1,4 @@
-use Rattle.std.proofs.Common.{refl}
+use Rattle.index_sql_writes.proofs.Words.{refl}
 use Rattle.index_sql_writes.proofs.NameLemmas.{uploads, uploads_in_case}
 use Rattle.index_sql_writes.proofs.files.upload.Goals as goal
 

@@ -1,4 +1,4 @@
-use Rattle.std.proofs.Common.{refl}
+use Rattle.index_sql_writes.proofs.Words.{refl}
 use Rattle.index_sql_writes.proofs.NameLemmas.{prohibits}
 use Rattle.index_sql_writes.proofs.names.prohibit.Goals as goal
 

@@ -1,5 +1,4 @@
-use Rattle.std.proofs.Common.{IsUtf8, rules, subst, refl}
-use Rattle.index_sql_schema.specs.StatementTexts.{put_case_text}
+use Rattle.index_sql_writes.proofs.Words.{IsUtf8, rules, subst, refl, put_case_text}
 use Rattle.index_sql_writes.specs.Statements.{case_cells, case_numbers}
 use Rattle.index_sql_writes.proofs.PutRecords.{case_put, case_fits}
 use Rattle.index_sql_writes.proofs.TakenLemmas.{fitting, step_of, too_much}

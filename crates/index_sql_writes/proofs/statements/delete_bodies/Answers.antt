@@ -1,12 +1,6 @@
-use Rattle.std.proofs.Common.{arith, rules, sym, subst}
-use Rattle.sqlite.specs.Held.{state}
-use Rattle.sqlite.specs.State.{HasCleanDisk}
-use Rattle.index_sql_schema.specs.Index.{same_meta}
-use Rattle.index_sql_schema.specs.OnStore.{on_store}
-use Rattle.index_sql_schema.specs.Records.{tables_in}
-use Rattle.index_sql_writes.specs.Writes.{AreFilesOf, deletes_bodies, deletes_shown}
+use Rattle.index_sql_writes.proofs.Words.{arith, rules, sym, subst, state, HasCleanDisk, same_meta, on_store, tables_in, AreFilesOf}
+use Rattle.index_sql_writes.proofs.Words.{deletes_bodies, deletes_shown, StepMakesChange}
 use Rattle.index_sql_writes.specs.Statements.{delete_bodies_ask}
-use Rattle.index_sql_writes.specs.Steps.{StepMakesChange}
 use Rattle.index_sql_writes.proofs.TakenLemmas.{at_exit, uncommitted_then}
 use Rattle.index_sql_writes.proofs.BodyLemmas.{bodies_gone}
 use Rattle.index_sql_writes.proofs.InTurn.{makes_then}

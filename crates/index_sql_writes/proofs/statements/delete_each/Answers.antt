@@ -1,23 +1,9 @@
-use Rattle.std.proofs.Common.{◌≡◌, inl, inr, Err, refl, sym, ◌∷◌, drop, ◌+◌, rules, arith, subst}
-use Rattle.std.proofs.Math.Seq.{drop-cons}
-use Rattle.sqlite.specs.Held.{state}
-use Rattle.sqlite_value.specs.Order.{Row}
-use Rattle.index_sql_schema.specs.Index.{meta_in}
-use Rattle.index_sql_schema.specs.OnStore.{on_store}
-use Rattle.index_sql_schema.specs.Records.{tables_in}
-use Rattle.index_sql_schema.specs.RecordRows.{AreRecords}
-use Rattle.index_sql_schema.specs.ShownRows.{file_shown}
-use Rattle.index_sql_writes.specs.Transaction.{IsInTransaction}
-use Rattle.index_sql_writes.specs.Writes.{deletes_body, deletes_shown}
-use Rattle.index_sql_schema.specs.Index.{same_meta}
-use Rattle.index_sql_writes.specs.Asks.{CanAskFor}
-use Rattle.index_sql_writes.specs.Transaction.{MakesInTransaction}
-use Rattle.index_sql_writes.specs.Steps.{ManyStepsMakeChange}
+use Rattle.index_sql_writes.proofs.Words.{◌≡◌, inl, inr, Err, refl, sym, ◌∷◌, drop, ◌+◌, rules, arith, subst, drop-cons, state, Row}
+use Rattle.index_sql_writes.proofs.Words.{meta_in, on_store, tables_in, AreRecords, file_shown, IsInTransaction, deletes_body}
+use Rattle.index_sql_writes.proofs.Words.{deletes_shown, same_meta, CanAskFor, MakesInTransaction, ManyStepsMakeChange, AllByRecursion}
+use Rattle.index_sql_writes.proofs.Words.{HasCleanDisk, RowShowsFileName, SqlDeletesBodies}
 use Rattle.index_sql_writes.proofs.TakenLemmas.{at_exit, uncommitted_none, uncommitted_then}
 use Rattle.index_sql_writes.proofs.InTurn.{one_more}
-use Rattle.std.specs.List.{AllByRecursion}
-use Rattle.sqlite.specs.State.{HasCleanDisk}
-use Rattle.index_sql_writes.specs.Asks.{RowShowsFileName, SqlDeletesBodies}
 use Rattle.index_sql_writes.proofs.GoingLemmas.{can_go_on, fault_since}
 use Rattle.index_sql_writes.proofs.statements.delete_each.Goals as goal
 

@@ -1,15 +1,5 @@
-use Rattle.std.proofs.Common.{◌≡◌, drop}
-use Rattle.std.specs.List.{AllByRecursion}
-use Rattle.sqlite.specs.Effect.{Database}
-use Rattle.sqlite.specs.Held.{state}
-use Rattle.sqlite.specs.Rows.{Outcome}
-use Rattle.sqlite.specs.State.{HasCleanDisk}
-use Rattle.index_sql_schema.specs.Index.{meta_in}
-use Rattle.index_sql_schema.specs.Records.{tables_in}
-use Rattle.index_sql_schema.specs.RecordRows.{AreRecords}
-use Rattle.index_sql_writes.specs.Transaction.{IsInTransaction, IsUncommitted}
-use Rattle.index_sql_writes.specs.Asks.{CanAskFor, RowShowsFileName, SqlDeletesBodies}
-use Rattle.index_sql_writes.specs.Writes.{deletes_shown}
+use Rattle.index_sql_writes.proofs.Words.{◌≡◌, drop, AllByRecursion, Database, state, Outcome, HasCleanDisk, meta_in, tables_in, AreRecords}
+use Rattle.index_sql_writes.proofs.Words.{IsInTransaction, IsUncommitted, CanAskFor, RowShowsFileName, SqlDeletesBodies, deletes_shown}
 use Rattle.index_sql_writes.proofs.statements.delete_each.Given as goal
 
 abbrev pub invariant-loop-row : goal.invariant-loop-row

@@ -1,6 +1,4 @@
-use Rattle.std.proofs.Common.{[], ◌∷◌, rules}
-use Rattle.sqlite_value.specs.declared.value.Value.TheVariants.{Text}
-use Rattle.index_sql_schema.specs.StatementTexts.{delete_owners_text}
+use Rattle.index_sql_writes.proofs.Words.{[], ◌∷◌, rules, Text, delete_owners_text}
 use Rattle.index_sql_schema.proofs.DeleteOwners.{deletes}
 use Rattle.index_sql_writes.proofs.TakenLemmas.{step_of}
 use Rattle.index_sql_writes.proofs.SureWrites.{delete_owners_sure}

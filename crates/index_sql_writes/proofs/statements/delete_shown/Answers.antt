@@ -1,12 +1,6 @@
-use Rattle.std.proofs.Common.{◌≡◌, [], ◌∷◌, subst, rules}
-use Rattle.index_sql_schema.specs.Index.{same_meta}
-use Rattle.index_sql_schema.specs.OnStore.{on_store}
-use Rattle.index_sql_schema.specs.ShownRows.{file_shown}
-use Rattle.index_sql_writes.specs.Asks.{CanAskFor, SqlAnswersAsk}
-use Rattle.index_sql_writes.specs.Transaction.{IsInTransaction, MakesInTransaction}
+use Rattle.index_sql_writes.proofs.Words.{◌≡◌, [], ◌∷◌, subst, rules, same_meta, on_store, file_shown, CanAskFor, SqlAnswersAsk}
+use Rattle.index_sql_writes.proofs.Words.{IsInTransaction, MakesInTransaction, ManyStepsMakeChange, StepMakesChange, deletes_body}
 use Rattle.index_sql_writes.specs.Statements.{delete_body_ask}
-use Rattle.index_sql_writes.specs.Steps.{ManyStepsMakeChange, StepMakesChange}
-use Rattle.index_sql_writes.specs.Writes.{deletes_body}
 use Rattle.index_sql_writes.proofs.BodyLemmas.{never_unread}
 use Rattle.index_sql_writes.proofs.TakenLemmas.{at_exit, uncommitted_none}
 use Rattle.index_sql_writes.proofs.statements.delete_shown.Goals as goal

@@ -1,9 +1,5 @@
-use Rattle.std.proofs.Common.{[], ◌∷◌, Ok, ap, arith, rules}
-use Rattle.sqlite_value.specs.declared.value.Value.TheVariants.{Text}
-use Rattle.sqlite.specs.Held.{state}
-use Rattle.index_sql_schema.specs.RecordRows.{IsFiledRow}
+use Rattle.index_sql_writes.proofs.Words.{[], ◌∷◌, Ok, ap, arith, rules, Text, state, IsFiledRow, RowShowsFileName}
 use Rattle.index_sql_schema.proofs.ShownRecords.{known_records}
-use Rattle.index_sql_writes.specs.Asks.{RowShowsFileName}
 use Rattle.index_sql_schema.specs.StatementTexts.{select_named_text}
 use Rattle.index_sql_schema.proofs.SelectNamed as statement
 use Rattle.index_sql_writes.proofs.QueryLemmas.{shown_with, shown_unchanged, shown_keeps, refused_keeps, unchanged_makes, query_goes}

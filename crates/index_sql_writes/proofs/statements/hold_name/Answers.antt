@@ -1,5 +1,4 @@
-use Rattle.std.proofs.Common.{IsUtf8, subst, ◌∙◌}
-use Rattle.index_sql_writes.specs.Statements.{project_numbers}
+use Rattle.index_sql_writes.proofs.Words.{IsUtf8, subst, ◌∙◌, project_numbers}
 use Rattle.index_sql_writes.proofs.PutRecords.{held_fits}
 use Rattle.index_sql_writes.proofs.TakenLemmas.{held_step, too_much}
 use Rattle.index_sql_writes.proofs.statements.hold_name.Goals as goal

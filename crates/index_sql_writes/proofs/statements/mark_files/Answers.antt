@@ -1,6 +1,4 @@
-use Rattle.std.proofs.Common.{[], ◌∷◌, rules}
-use Rattle.sqlite_value.specs.declared.value.Value.TheVariants.{Text}
-use Rattle.index_sql_schema.specs.StatementTexts.{update_files_text}
+use Rattle.index_sql_writes.proofs.Words.{[], ◌∷◌, rules, Text, update_files_text}
 use Rattle.index_sql_schema.proofs.UpdateFiles.{updates}
 use Rattle.index_sql_writes.proofs.TakenLemmas.{step_of}
 use Rattle.index_sql_writes.proofs.SureWrites.{update_files_sure}

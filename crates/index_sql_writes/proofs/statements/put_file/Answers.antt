@@ -1,7 +1,6 @@
-use Rattle.std.proofs.Common.{inl, length, IsUtf8, rules, sym, ap, subst, ◌∙◌, [], ◌∷◌, refl}
+use Rattle.index_sql_writes.proofs.Words.{inl, length, IsUtf8, rules, sym, ap, subst, ◌∙◌, [], ◌∷◌, refl, put_file_text}
 use Rattle.index_sql_writes.specs.Statements.{file_cells}
 use Rattle.index_sql_writes.proofs.PutRecords.{file_put, file_fits}
-use Rattle.index_sql_schema.specs.StatementTexts.{put_file_text}
 use Rattle.index_sql_writes.proofs.TakenLemmas.{fitting, step_of, too_much}
 use Rattle.index_sql_writes.proofs.SureWrites.{put_file_sure}
 use Rattle.index_sql_writes.proofs.statements.put_file.Goals as goal

@@ -1,5 +1,4 @@
-use Rattle.std.proofs.Common.{rules}
-use Rattle.index_sql_schema.specs.StatementTexts.{put_name_text}
+use Rattle.index_sql_writes.proofs.Words.{rules, put_name_text}
 use Rattle.index_sql_schema.proofs.PutName as statement
 use Rattle.index_sql_writes.proofs.TakenLemmas.{step_of}
 use Rattle.index_sql_writes.proofs.SureWrites.{put_name_sure}

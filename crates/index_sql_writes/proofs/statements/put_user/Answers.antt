@@ -1,7 +1,5 @@
-use Rattle.std.proofs.Common.{rules, length, sym, ap, ◌∙◌}
-use Rattle.index_sql_writes.specs.Writes.{flag_number}
+use Rattle.index_sql_writes.proofs.Words.{rules, length, sym, ap, ◌∙◌, flag_number, put_user_text}
 use Rattle.index_sql_writes.proofs.PutRecords.{user_put, user_fits}
-use Rattle.index_sql_schema.specs.StatementTexts.{put_user_text}
 use Rattle.index_sql_schema.proofs.PutUser as statement
 use Rattle.index_sql_writes.proofs.TakenLemmas.{step_of}
 use Rattle.index_sql_writes.proofs.SureWrites.{put_user_sure}

@@ -1,6 +1,4 @@
-use Rattle.std.proofs.Common.{Ok, Err}
-use Rattle.index_sql_schema.specs.OnStore.{on_store}
-use Rattle.index_sql_writes.specs.Steps.{RunsStatement}
+use Rattle.index_sql_writes.proofs.Words.{Ok, Err, on_store, RunsStatement}
 use Rattle.index_sql_writes.proofs.TakenLemmas.{at_exit, runs_statement}
 use Rattle.index_sql_writes.proofs.statements.run_statement.Goals as goal
 

@@ -1,22 +1,10 @@
-use Rattle.std.proofs.Common.{◌≡◌, inl, inr, Err, refl, sym, ◌∷◌, drop, ◌+◌, rules, arith, subst}
-use Rattle.std.proofs.Math.Seq.{drop-cons}
-use Rattle.sqlite.specs.Held.{state}
-use Rattle.index_sql_writes.specs.Changed.{step_by, all_of}
-use Rattle.index_sql_schema.specs.Index.{meta_in}
-use Rattle.index_sql_schema.specs.OnStore.{on_store}
-use Rattle.index_sql_schema.specs.Records.{tables_in}
-use Rattle.index_sql_schema.specs.RecordRows.{AreRecords}
-use Rattle.index_sql_writes.specs.Transaction.{IsInTransaction}
-use Rattle.index_sql_schema.specs.Index.{same_meta}
-use Rattle.index_sql_writes.specs.Asks.{CanAsk}
-use Rattle.index_sql_writes.specs.Transaction.{MakesInTransaction}
-use Rattle.index_sql_writes.specs.Steps.{ManyStepsMakeChange}
+use Rattle.index_sql_writes.proofs.Words.{◌≡◌, inl, inr, Err, refl, sym, ◌∷◌, drop, ◌+◌, rules, arith, subst, drop-cons, state, all_of}
+use Rattle.index_sql_writes.proofs.Words.{meta_in, on_store, tables_in, AreRecords, IsInTransaction, same_meta, CanAsk, MakesInTransaction}
+use Rattle.index_sql_writes.proofs.Words.{ManyStepsMakeChange, HasCleanDisk, SqlAnswersEachAsk, asks_by}
+use Rattle.index_sql_writes.specs.Changed.{step_by}
 use Rattle.index_sql_writes.proofs.TakenLemmas.{at_exit, uncommitted_none, uncommitted_then}
 use Rattle.index_sql_writes.proofs.InTurn.{one_more}
-use Rattle.sqlite.specs.State.{HasCleanDisk}
-use Rattle.index_sql_writes.specs.Asks.{SqlAnswersEachAsk}
 use Rattle.index_sql_writes.proofs.GoingLemmas.{can_go_on, fault_since}
-use Rattle.index_sql_writes.specs.StepAsks.{asks_by}
 use Rattle.index_sql_writes.proofs.step.take_steps.Goals as goal
 
 pub loop-step-init : goal.loop-step-init

@@ -1,15 +1,5 @@
-use Rattle.std.proofs.Common.{◌≡◌, ◌<◌, IsTrue, drop}
-use Rattle.sqlite.specs.Effect.{Database}
-use Rattle.sqlite.specs.Held.{state}
-use Rattle.sqlite.specs.Rows.{Outcome}
-use Rattle.sqlite.specs.State.{HasCleanDisk}
-use Rattle.index_sql_writes.specs.Transaction.{IsInTransaction, IsUncommitted}
-use Rattle.index_sql_schema.specs.Index.{meta_in}
-use Rattle.index_sql_schema.specs.Records.{tables_in}
-use Rattle.index_sql_schema.specs.RecordRows.{AreRecords}
-use Rattle.index_sql_writes.specs.Asks.{CanAsk, SqlAnswersEachAsk}
-use Rattle.index_sql_writes.specs.StepAsks.{asks_by}
-use Rattle.index_sql_writes.specs.Changed.{all_of}
+use Rattle.index_sql_writes.proofs.Words.{◌≡◌, ◌<◌, IsTrue, drop, Database, state, Outcome, HasCleanDisk, IsInTransaction, IsUncommitted}
+use Rattle.index_sql_writes.proofs.Words.{meta_in, tables_in, AreRecords, CanAsk, SqlAnswersEachAsk, asks_by, all_of}
 use Rattle.index_sql_writes.proofs.step.take_steps.Given as goal
 
 abbrev pub invariant-loop-step : goal.invariant-loop-step

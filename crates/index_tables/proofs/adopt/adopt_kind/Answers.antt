@@ -1,10 +1,5 @@
-use Rattle.std.proofs.Common.{rules, ◌≡◌, IsTrue, Some, refl}
-use Rattle.sqlite.specs.Held.{state}
-use Rattle.sqlite.specs.State.{HasCleanDisk}
-use Rattle.index_sql_schema.specs.FirstVersion.{IsFirstVersion}
-use Rattle.index_sql_schema.specs.Index.{IsIndex, version_in}
-use Rattle.index_tables.specs.Adopted.{IsRaised}
-use Rattle.index_tables.specs.declared.adopt.Kind.TheVariants.{FirstVersion}
+use Rattle.index_tables.proofs.Words.{rules, ◌≡◌, IsTrue, Some, refl, state, HasCleanDisk, IsFirstVersion, IsIndex, version_in, IsRaised}
+use Rattle.index_tables.proofs.Words.{FirstVersion}
 use Rattle.index_tables.proofs.AdoptLemmas.{adopted, adopted_after}
 use Rattle.index_tables.proofs.OpenedLemmas.{looked_opened}
 use Rattle.index_tables.proofs.adopt.adopt_kind.Goals as goal

@@ -1,8 +1,4 @@
-use Rattle.std.proofs.Common.{rules, inr}
-use Rattle.sqlite.specs.Held.{state}
-use Rattle.index_tables.specs.Adopted.{IsRaised}
-use Rattle.index_tables.specs.BooksState.{IsWorking}
-use Rattle.index_tables.specs.Opened.{AreOpened}
+use Rattle.index_tables.proofs.Words.{rules, inr, state, IsRaised, IsWorking, AreOpened}
 use Rattle.index_tables.proofs.AdoptLemmas.{adopted, not_adopted, raised_told}
 use Rattle.index_tables.proofs.OpenedLemmas.{made_index, made_opened, made_refused, made_version}
 use Rattle.index_tables.proofs.adopt.migrate_and_adopt.Goals as goal

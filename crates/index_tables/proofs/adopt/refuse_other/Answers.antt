@@ -1,6 +1,5 @@
-use Rattle.std.proofs.Common.{rules, inr}
+use Rattle.index_tables.proofs.Words.{rules, inr, IsRaised}
 use Rattle.index_tables.proofs.AdoptLemmas.{reason_failed, reason_told}
-use Rattle.index_tables.specs.Adopted.{IsRaised}
 use Rattle.index_tables.proofs.OpenedLemmas.{looked_refused}
 use Rattle.index_tables.proofs.adopt.refuse_other.Goals as goal
 

@@ -1,8 +1,6 @@
-use Rattle.std.proofs.Common.{rules, refl, inr, IsTrue}
-use Rattle.sqlite.specs.Held.{state}
-use Rattle.index_sql_opening.specs.Created.{IsBlank, one_user}
-use Rattle.index_tables.specs.BooksState.{IsWorking}
-use Rattle.index_tables.specs.Opened.{AreOpened, IsCreated}
+use Rattle.index_tables.proofs.Words.{rules, refl, inr, IsTrue, state, one_user, IsWorking, AreOpened}
+use Rattle.index_sql_opening.specs.Created.{IsBlank}
+use Rattle.index_tables.specs.Opened.{IsCreated}
 use Rattle.index_tables.proofs.OpenedLemmas.{made_opened, made_refused, named_version}
 use Rattle.index_tables.proofs.RecordLemmas.{blank_records}
 use Rattle.index_tables.proofs.create.fill_blank.Goals as goal

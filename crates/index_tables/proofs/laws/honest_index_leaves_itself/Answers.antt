@@ -1,9 +1,5 @@
-use Rattle.std.proofs.Common.{◌≡◌, ◌∙◌, ap, subst, sym}
-use Rattle.sqlite.specs.Held.{state}
-use Rattle.index_sql_reads.specs.ConnectionTables.{tables_of}
-use Rattle.index_rules.specs.Tables.{Tables}
-use Rattle.index_tables.specs.BooksState.{BooksState, HasVersion, IsHonest, Leaves}
-use Rattle.index_tables.specs.Laws.{settled_at}
+use Rattle.index_tables.proofs.Words.{◌≡◌, ◌∙◌, ap, subst, sym, state, tables_of, Tables, BooksState, HasVersion, IsHonest, Leaves}
+use Rattle.index_tables.proofs.Words.{settled_at}
 use Rattle.index_tables.proofs.laws.honest_index_leaves_itself.Goals as goal
 
 pub returns-clause-itself : goal.returns-clause-itself

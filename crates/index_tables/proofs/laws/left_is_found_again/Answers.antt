@@ -1,13 +1,5 @@
-use Rattle.std.proofs.Common.{◌≡◌, ◌⊎◌, ◌∙◌, ap, subst}
-use Rattle.sqlite_wal.specs.Recovery.{Image}
-use Rattle.sqlite.specs.Files.{over_files, file_state}
-use Rattle.sqlite.specs.Held.{state}
-use Rattle.sqlite.specs.State.{HasCleanDisk}
-use Rattle.index_sql_reads.specs.ConnectionTables.{tables_of}
-use Rattle.index_rules.specs.Tables.{Tables}
-use Rattle.index_tables.specs.BooksState.{BooksState, IsHonest, Leaves}
-use Rattle.index_tables.specs.Adopted.{IsRaised, IsReason}
-use Rattle.index_tables.specs.Reopened.{MayLeave, IsLeft, IsOver, OpensOnly}
+use Rattle.index_tables.proofs.Words.{◌≡◌, ◌⊎◌, ◌∙◌, ap, subst, Image, over_files, file_state, state, HasCleanDisk, tables_of, Tables}
+use Rattle.index_tables.proofs.Words.{BooksState, IsHonest, Leaves, IsRaised, IsReason, MayLeave, IsLeft, IsOver, OpensOnly}
 use Rattle.index_tables.proofs.ReopenLemmas.{opens_rest, opens_either, opens_if_clean}
 use Rattle.index_tables.proofs.laws.left_is_found_again.Goals as goal
 

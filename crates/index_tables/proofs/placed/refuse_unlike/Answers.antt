@@ -1,5 +1,4 @@
-use Rattle.std.proofs.Common.{inr}
-use Rattle.index_tables.specs.Placed.{MakesNothing}
+use Rattle.index_tables.proofs.Words.{inr, MakesNothing}
 use Rattle.index_tables.proofs.OpenedLemmas.{looked_refused}
 use Rattle.index_tables.proofs.PlacedLemmas.{refused_shown}
 use Rattle.index_tables.proofs.placed.refuse_unlike.Goals as goal

@@ -1,11 +1,5 @@
-use Rattle.std.proofs.Common.{rules, ◌≡◌, ap, inr, refl, true, Some}
-use Rattle.sqlite.specs.Effect.{Database}
-use Rattle.sqlite.specs.Held.{state}
-use Rattle.sqlite.specs.State.{HasCleanDisk}
-use Rattle.index_sql_schema.specs.Index.{meta_in, version_in}
-use Rattle.index_sql_schema.specs.Looks.{QueriesOnly}
-use Rattle.index_sql_schema.specs.Records.{tables_in}
-use Rattle.index_tables.specs.Placed.{MakesNothing}
+use Rattle.index_tables.proofs.Words.{rules, ◌≡◌, ap, inr, refl, true, Some, Database, state, HasCleanDisk, meta_in, version_in}
+use Rattle.index_tables.proofs.Words.{QueriesOnly, tables_in, MakesNothing}
 use Rattle.index_tables.proofs.OpenedLemmas.{looked_opened, looked_refused}
 use Rattle.index_tables.proofs.PlacedLemmas.{refused_by}
 use Rattle.index_tables.proofs.placed.take_placed.Goals as goal

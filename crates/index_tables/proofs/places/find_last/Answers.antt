@@ -1,8 +1,6 @@
-use Rattle.std.proofs.Common.{◌∙◌, None, ap, option_map, refl, subst, sym}
+use Rattle.index_tables.proofs.Words.{◌∙◌, None, ap, option_map, refl, subst, sym, tables_of, IsLast, last_from}
 use Rattle.std.specs.FinMap.{entries}
-use Rattle.index_sql_reads.specs.ConnectionTables.{tables_of}
 use Rattle.index_sql_schema.proofs.LookLemmas.{looks_failed}
-use Rattle.index_volume_books.specs.Last.{IsLast, last_from}
 use Rattle.index_volume_books.proofs.LastLemmas.{is_last}
 use Rattle.index_tables.proofs.PlaceLemmas.{file_is, took_last}
 use Rattle.index_tables.proofs.places.find_last.Goals as goal

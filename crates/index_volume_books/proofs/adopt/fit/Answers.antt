@@ -1,7 +1,5 @@
-use Rattle.std.proofs.Common.{◌≢◌, refl}
+use Rattle.index_volume_books.proofs.Words.{◌≢◌, refl, AreSettled, Side, side_of}
 use Rattle.index_volume_books.specs.declared.adopt.TakeFault.TheVariants as fault
-use Rattle.index_volume_books.specs.Taken.{AreSettled}
-use Rattle.index_volume_books.specs.Through.{Side, side_of}
 use Rattle.index_volume_books.proofs.TakenLemmas.{fit_last, fit_none, refused_by_last, refused_for}
 use Rattle.index_volume_books.proofs.adopt.fit.Goals as goal
 

@@ -1,6 +1,4 @@
-use Rattle.std.proofs.Common.{refl}
-use Rattle.index_volume_books.specs.Taken.{AreSettled}
-use Rattle.index_volume_books.specs.Through.{Side, side_of}
+use Rattle.index_volume_books.proofs.Words.{refl, AreSettled, Side, side_of}
 use Rattle.index_volume_books.proofs.TakenLemmas.{looks_with}
 use Rattle.index_volume_books.proofs.adopt.test_last.Goals as goal
 

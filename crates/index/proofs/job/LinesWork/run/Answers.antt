@@ -1,4 +1,4 @@
-use Rattle.std.proofs.Common.{Ok, Err, refl}
+use Rattle.index.proofs.Words.{Ok, Err, refl}
 use Rattle.index.proofs.LinesLemmas.{lines_done, lines_left, lines_told}
 use Rattle.index.proofs.job.LinesWork.run.Goals as goal
 

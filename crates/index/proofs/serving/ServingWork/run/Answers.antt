@@ -1,4 +1,4 @@
-use Rattle.std.proofs.Common.{Ok, Err}
+use Rattle.index.proofs.Words.{Ok, Err}
 use Rattle.index_cli.proofs.Clauses.{by_each_history, by_the_tables, crash, crash_by_history, history_up_to_a_fault, up_to_a_fault}
 use Rattle.index.proofs.CausedLemmas.{listening_is_caused, listening_store, serving_is_caused, serving_store}
 use Rattle.index.proofs.ServesLemmas.{among, none_answered, none_left, serves_done, serves_left, serves_told}

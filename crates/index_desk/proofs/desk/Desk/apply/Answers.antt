@@ -1,5 +1,4 @@
-use Rattle.std.proofs.Common.{subst}
-use Rattle.index_desk.specs.Takes.{Takes}
+use Rattle.index_desk.proofs.Words.{subst, Takes}
 use Rattle.index_desk.proofs.TakeLemmas.{takes_keep, takes_settled}
 use Rattle.index_desk.proofs.desk.Desk.apply.Goals as goal
 

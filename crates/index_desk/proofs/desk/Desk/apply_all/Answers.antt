@@ -1,13 +1,11 @@
-use Rattle.std.proofs.Common.{◌≡◌, ◌∙◌, arith, length-append, subst, sym}
+use Rattle.index_desk.proofs.Words.{◌≡◌, ◌∙◌, arith, subst, sym, Store, HasOneBearer, HasOneBearer-tables_after}
+use Rattle.std.proofs.Common.{length-append}
 use Rattle.std.proofs.lemmas.Iterator.Adapters.{YieldsList-from_vec}
 use Rattle.std.proofs.lemmas.Iterator.Consumers.{YieldsList-end}
 use Rattle.std.proofs.lemmas.List.{map-id}
 use Rattle.index_rules.specs.declared.answer.Answer.TheVariants as answer
-use Rattle.index_rules.specs.declared.answer.Fault.TheVariants.{Store}
-use Rattle.index_rules.specs.Facts.{HasOneBearer}
 use Rattle.index_rules.proofs.Counts.{NotFewer-more}
 use Rattle.index_rules.proofs.RunLemmas.{Runs-push, HasFailed-push}
-use Rattle.index_rules.proofs.OneBearer.{HasOneBearer-tables_after}
 use Rattle.index_desk.proofs.CrashLemmas.{LastsAll-push, CallsLeave-push}
 use Rattle.index_desk.proofs.TakeLemmas.{runs_keep, stores_push, takes_in_turn}
 use Rattle.index_desk.proofs.desk.Desk.apply_all.Goals as goal

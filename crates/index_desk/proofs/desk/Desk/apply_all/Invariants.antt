@@ -1,13 +1,7 @@
-use Rattle.std.proofs.Common.{◌≡◌, ◌≤◌, ◌⊎◌, length, vec_capacity, Contains}
-use Rattle.index_io.specs.Counts.{HasFailed}
+use Rattle.index_desk.proofs.Words.{◌≡◌, ◌≤◌, ◌⊎◌, Contains, HasFailed, Store, HasOneBearer, Runs, Tables, CallsLeave, LastsAll, by_tables}
+use Rattle.std.proofs.Common.{length, vec_capacity}
 use Rattle.index_rules.specs.declared.answer.Answer.TheVariants as answer
-use Rattle.index_rules.specs.declared.answer.Fault.TheVariants.{Store}
-use Rattle.index_rules.specs.Facts.{HasOneBearer}
-use Rattle.index_rules.specs.Runs.{Runs}
 use Rattle.index_rules.proofs.Counts.{NotFewer}
-use Rattle.index_rules.specs.Tables.{Tables}
-use Rattle.index_desk.specs.Crashes.{CallsLeave, LastsAll}
-use Rattle.index_desk.specs.Rules.{by_tables}
 use Rattle.index_desk.proofs.desk.Desk.apply_all.Given as goal
 
 abbrev pub invariant-loop-call : goal.invariant-loop-call

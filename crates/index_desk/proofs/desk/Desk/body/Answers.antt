@@ -1,6 +1,4 @@
-use Rattle.std.proofs.Common.{rules, subst, sym}
-use Rattle.std.proofs.lemmas.Result.{IfOk-weaker}
-use Rattle.index_desk.specs.Bodies.{AreBytesOf}
+use Rattle.index_desk.proofs.Words.{rules, subst, sym, IfOk-weaker, AreBytesOf}
 use Rattle.index_desk.proofs.BodyLemmas.{bytes-bound}
 use Rattle.index_desk.proofs.LookLemmas.{looks_by}
 use Rattle.index_desk.proofs.RulesLemmas.{body_by_history}

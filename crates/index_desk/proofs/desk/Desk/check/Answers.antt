@@ -1,7 +1,5 @@
-use Rattle.std.proofs.Common.{◌≡◌, ◌∙◌, ap, count_by, rules}
-use Rattle.std.proofs.lemmas.Result.{IfOk-weaker}
+use Rattle.index_desk.proofs.Words.{◌≡◌, ◌∙◌, ap, count_by, rules, IfOk-weaker, is_charged_wrong_in, wrong_charges_in}
 use Rattle.index_rules.specs.TableRows.{name_rows_in}
-use Rattle.index_desk.specs.Checks.{is_charged_wrong_in, wrong_charges_in}
 use Rattle.index_desk.proofs.CheckLemmas.{none_charged_wrong}
 use Rattle.index_desk.proofs.desk.Desk.check.Goals as goal
 

@@ -1,5 +1,4 @@
-use Rattle.std.proofs.Common.{arith, rules}
-use Rattle.std.proofs.lemmas.Grind.{common_steps}
+use Rattle.index_desk.proofs.Words.{arith, rules, common_steps}
 use Rattle.index_desk.proofs.LookLemmas.{looks_by}
 use Rattle.index_desk.proofs.RulesLemmas.{project_rows_by_history}
 use Rattle.index_desk.proofs.desk.Desk.project_rows.Goals as goal

@@ -1,6 +1,5 @@
-use Rattle.std.proofs.Common.{ap, ◌∙◌, filter, rules}
+use Rattle.index_desk.proofs.Words.{ap, ◌∙◌, filter, rules, held_rows_in, is_held_row}
 use Rattle.std.proofs.lemmas.List.Elements.{filter_from_retain}
-use Rattle.index_rules.specs.TableRows.{held_rows_in, is_held_row}
 use Rattle.index_desk.proofs.LookLemmas.{looks_by}
 use Rattle.index_desk.proofs.RulesLemmas.{held_rows_by_history}
 use Rattle.index_desk.proofs.desk.Desk.root_rows.Goals as goal

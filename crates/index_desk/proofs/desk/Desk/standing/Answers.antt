@@ -1,4 +1,4 @@
-use Rattle.std.proofs.Common.{rules}
+use Rattle.index_desk.proofs.Words.{rules}
 use Rattle.index_desk.proofs.LookLemmas.{looks_by}
 use Rattle.index_desk.proofs.RulesLemmas.{standing_by_history}
 use Rattle.index_desk.proofs.desk.Desk.standing.Goals as goal

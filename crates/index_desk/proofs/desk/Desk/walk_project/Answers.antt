@@ -1,6 +1,4 @@
-use Rattle.std.proofs.Common.{Some, arith, refl, rules}
-use Rattle.std.proofs.lemmas.Grind.{common_steps}
-use Rattle.index_desk.specs.Projects.{project_rows_in}
+use Rattle.index_desk.proofs.Words.{Some, arith, refl, rules, common_steps, project_rows_in}
 use Rattle.index_desk.proofs.LookLemmas.{hands_over}
 use Rattle.index_desk.proofs.RowLemmas.{AreProjectRowsAfter-project_rows_in}
 use Rattle.index_desk.proofs.desk.Desk.walk_project.Goals as goal

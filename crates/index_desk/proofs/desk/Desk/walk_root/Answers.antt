@@ -1,6 +1,4 @@
-use Rattle.std.proofs.Common.{arith, refl, rules}
-use Rattle.std.proofs.lemmas.Grind.{common_steps}
-use Rattle.index_rules.specs.TableRows.{held_rows_in}
+use Rattle.index_desk.proofs.Words.{arith, refl, rules, common_steps, held_rows_in}
 use Rattle.index_desk.proofs.LookLemmas.{hands_over}
 use Rattle.index_desk.proofs.RowLemmas.{AreHeldRowsAfter-held_rows_in}
 use Rattle.index_desk.proofs.desk.Desk.walk_root.Goals as goal

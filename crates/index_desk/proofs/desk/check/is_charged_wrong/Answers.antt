@@ -1,6 +1,5 @@
-use Rattle.std.proofs.Common.{◌≡◌, ◌==◌, not, ◌∙◌, ap, sum_by, rules}
-use Rattle.index_rules.specs.declared.rows.FileRow.{FileRow}
-use Rattle.index_rules.specs.Sound.{charge_in}
+use Rattle.index_desk.proofs.Words.{◌≡◌, not, ◌∙◌, ap, sum_by, rules, FileRow, charge_in}
+use Rattle.std.proofs.Common.{◌==◌}
 use Rattle.index_desk.proofs.CheckLemmas.{sizes_are_charged}
 use Rattle.index_desk.proofs.desk.check.is_charged_wrong.Goals as goal
 

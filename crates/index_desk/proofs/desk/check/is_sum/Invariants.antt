@@ -1,4 +1,4 @@
-use Rattle.std.proofs.Common.{◌≡◌, ◌+◌, take, sum_by}
+use Rattle.index_desk.proofs.Words.{◌≡◌, ◌+◌, take, sum_by}
 use Rattle.index_desk.proofs.desk.check.is_sum.Given as goal
 
 abbrev pub invariant-loop-file : goal.invariant-loop-file

@@ -1,6 +1,4 @@
-use Rattle.std.proofs.Common.{◌≡◌, ◌≤◌, Ok, take, count_by}
-use Rattle.index_desk.specs.Checks.{is_charged_wrong_in}
-use Rattle.index_desk.specs.Looks.{ReadsTables}
+use Rattle.index_desk.proofs.Words.{◌≡◌, ◌≤◌, Ok, take, count_by, is_charged_wrong_in, ReadsTables}
 use Rattle.index_desk.proofs.desk.check.wrong_charges.Given as goal
 
 abbrev pub invariant-loop-row : goal.invariant-loop-row

@@ -1,4 +1,5 @@
-use Rattle.std.proofs.Common.{◌≡◌, ◌++◌, replicate}
+use Rattle.index_desk.proofs.Words.{◌≡◌, ◌++◌}
+use Rattle.std.proofs.Common.{replicate}
 use Rattle.index_desk.proofs.desk.report.add_spaces.Given as goal
 
 abbrev pub invariant-loop : goal.invariant-loop

@@ -1,4 +1,5 @@
-use Rattle.std.proofs.Common.{◌≡◌, ◌++◌, drop}
+use Rattle.index_desk.proofs.Words.{◌≡◌, ◌++◌}
+use Rattle.std.proofs.Common.{drop}
 use Rattle.index_desk.specs.Reports.{report_of}
 use Rattle.index_desk.proofs.desk.report.lines_of.Given as goal
 

@@ -1,7 +1,5 @@
-use Rattle.std.proofs.Common.{◌∙◌, ◌++◌, ap, append_assoc, sym}
-use Rattle.std.specs.List.{flat_map}
-use Rattle.index_pages.specs.Html.{bottom, file_anchor, project_top}
-use Rattle.index_pages.specs.Parts.{once}
+use Rattle.index_pages.proofs.Words.{◌∙◌, ◌++◌, ap, append_assoc, sym, flat_map, bottom, file_anchor, once}
+use Rattle.index_pages.specs.Html.{project_top}
 use Rattle.index_pages.proofs.PieceLemmas.{adds_both}
 use Rattle.index_pages.proofs.project.ProjectPage.html_row.Goals as goal
 

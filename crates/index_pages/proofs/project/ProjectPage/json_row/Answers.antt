@@ -1,4 +1,4 @@
-use Rattle.std.proofs.Common.{◌≡◌, rules}
+use Rattle.index_pages.proofs.Words.{◌≡◌, rules}
 use Rattle.index_pages.specs.Parts.{file_line}
 use Rattle.index_pages.proofs.JsonLemmas.{json-next}
 use Rattle.index_pages.proofs.project.ProjectPage.json_row.Goals as goal

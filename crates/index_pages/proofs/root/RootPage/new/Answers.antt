@@ -1,4 +1,4 @@
-use Rattle.index_pages.specs.Pages.{is_json}
+use Rattle.index_pages.proofs.Words.{is_json}
 use Rattle.index_pages.proofs.PageLemmas.{root-whole}
 use Rattle.index_pages.proofs.root.RootPage.new.Goals as goal
 

@@ -1,8 +1,6 @@
-use Rattle.std.proofs.Common.{◌≡◌, sym, ◌∙◌, ap, suc, drop, map, get_or, Bor, List, ℕ, [], arith, add-one}
+use Rattle.index_pages.proofs.Words.{◌≡◌, sym, ◌∙◌, ap, suc, drop, map, get_or, Bor, List, ℕ, [], arith, add-one, byte, items_of, item_of}
+use Rattle.index_pages.proofs.Words.{cut_at, after_all, no_tally}
 use Rattle.std.proofs.lemmas.List.{drop_all}
-use Rattle.std.specs.Str.{byte}
-use Rattle.index_pages.specs.Accept.{items_of, item_of, cut_at}
-use Rattle.index_pages.specs.Tally.{after_all, no_tally}
 use Rattle.index_pages.proofs.TallyLemmas.{after_all-append, items_of-drop, tally_readable, chooses_any, chooses_best}
 use Rattle.index_pages.proofs.served.Served.choose.Goals as goal
 

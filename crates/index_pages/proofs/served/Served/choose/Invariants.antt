@@ -1,6 +1,4 @@
-use Rattle.std.proofs.Common.{◌≡◌, drop}
-use Rattle.index_pages.specs.Accept.{items_of}
-use Rattle.index_pages.specs.Tally.{after_all}
+use Rattle.index_pages.proofs.Words.{◌≡◌, drop, items_of, after_all}
 use Rattle.index_pages.proofs.served.Served.choose.Given as goal
 
 -- the items so far and those that are left are those of all values

@@ -1,6 +1,4 @@
-use Rattle.std.proofs.Common.{◌≡◌, sym, ◌∙◌, ap}
-use Rattle.index_pages.specs.Accept.{item_of}
-use Rattle.index_pages.specs.Tally.{after, after_all, items_left}
+use Rattle.index_pages.proofs.Words.{◌≡◌, sym, ◌∙◌, ap, item_of, after, after_all, items_left}
 use Rattle.index_pages.proofs.TallyLemmas.{after_all-cut}
 use Rattle.index_pages.proofs.tally.Tally.with_value.Goals as goal
 

@@ -1,8 +1,4 @@
-use Rattle.std.proofs.Common.{◌≡◌, ◌+◌, length, map}
-use Rattle.std.specs.Option.{option_map_or}
-use Rattle.std.specs.Str.{byte}
-use Rattle.index_pages.specs.Accept.{cut_at, item_of}
-use Rattle.index_pages.specs.Tally.{after_all, items_left}
+use Rattle.index_pages.proofs.Words.{◌≡◌, ◌+◌, length, map, option_map_or, byte, cut_at, item_of, after_all, items_left}
 use Rattle.index_pages.proofs.tally.Tally.with_value.Given as goal
 
 -- the items so far and those that are left are those of the value

@@ -1,4 +1,4 @@
-use Rattle.std.proofs.Common.{refl}
+use Rattle.index_pages.proofs.Words.{refl}
 use Rattle.index_pages.proofs.TextLemmas.{front_of, steady_of}
 use Rattle.index_pages.proofs.text.PageText+K+P+Vec+u8.abandon.Goals as goal
 

@@ -1,4 +1,4 @@
-use Rattle.std.proofs.Common.{Err, refl}
+use Rattle.index_pages.proofs.Words.{Err, refl}
 use Rattle.index_pages.specs.States.{state_of, text_state}
 use Rattle.index_pages.proofs.TextLemmas.{page_ends, page_stops}
 use Rattle.index_pages.proofs.text.PageText+K+P+Vec+u8.finish.Goals as goal

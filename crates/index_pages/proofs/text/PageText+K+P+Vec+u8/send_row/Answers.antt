@@ -1,4 +1,4 @@
-use Rattle.std.proofs.Common.{◌≡◌}
+use Rattle.index_pages.proofs.Words.{◌≡◌}
 use Rattle.index_pages.proofs.TextLemmas.{front_of_row, sends_row}
 use Rattle.index_pages.proofs.text.PageText+K+P+Vec+u8.send_row.Goals as goal
 

@@ -1,9 +1,4 @@
-use Rattle.std.proofs.Common.{ap, ◌∙◌}
-use Rattle.std.specs.FinMap.{from_entries}
-use Rattle.std.proofs.lemmas.Cmp.{nat_list_cmp_total}
-use Rattle.std.proofs.lemmas.Map.Lookups.{exact_bytes}
-use Rattle.index_rules.specs.Maps.{bytes_cmp}
-use Rattle.index_plain.specs.Pairs.{pairs_of}
+use Rattle.index_plain.proofs.Words.{ap, ◌∙◌, from_entries, nat_list_cmp_total, exact_bytes, bytes_cmp, pairs_of}
 use Rattle.index_plain.proofs.PairLemmas.{pairs_empty}
 use Rattle.index_plain.proofs.BearerLemmas.{bearers_none}
 use Rattle.index_plain.proofs.accounts.Accounts.new.Goals as goal

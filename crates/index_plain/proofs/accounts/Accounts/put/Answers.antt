@@ -1,8 +1,4 @@
-use Rattle.std.proofs.Common.{refl, sym, ap, ◌∙◌, Some}
-use Rattle.index_rules.specs.Maps.{bytes_cmp}
-use Rattle.index_rules.proofs.OwnerLists.{same-is}
-use Rattle.index_plain.specs.Trees.{map_of}
-use Rattle.index_plain.specs.Pairs.{pairs_of}
+use Rattle.index_plain.proofs.Words.{refl, sym, ap, ◌∙◌, Some, bytes_cmp, same-is, map_of, pairs_of}
 use Rattle.index_plain.proofs.BearerLemmas.{bearers_add, bearers_same, bearers_stay, either_way, new_user_not_there}
 use Rattle.index_plain.proofs.accounts.Accounts.put.Goals as goal
 

@@ -1,8 +1,4 @@
-use Rattle.std.proofs.Common.{ap, ◌∙◌}
-use Rattle.std.specs.FinMap.{remove}
-use Rattle.index_rules.specs.Maps.{Pairs, bytes_cmp}
-use Rattle.index_plain.specs.Trees.{map_of}
-use Rattle.index_plain.specs.Pairs.{pairs_of}
+use Rattle.index_plain.proofs.Words.{ap, ◌∙◌, remove, Pairs, bytes_cmp, map_of, pairs_of}
 use Rattle.index_plain.proofs.BearerLemmas.{bearers_move, bearers_same, new_token_not_there}
 use Rattle.index_plain.proofs.accounts.Accounts.put_with_token.Goals as goal
 

@@ -1,4 +1,4 @@
-use Rattle.std.proofs.Common.{sym, subst}
+use Rattle.index_plain.proofs.Words.{sym, subst}
 use Rattle.index_rules.specs.declared.change.Change.TheVariants.{BanFile}
 use Rattle.index_plain.specs.Plain.{Makes}
 use Rattle.index_plain.proofs.plain.PlainBooks.ban_file.Goals as goal

@@ -1,8 +1,4 @@
-use Rattle.std.proofs.Common.{sym, ap, ◌∙◌, option_copied}
-use Rattle.index_rules.specs.Maps.{bytes_cmp}
-use Rattle.index_plain.specs.Plain.{plain_tables}
-use Rattle.index_plain.specs.Pairs.{pairs_of}
-use Rattle.index_plain.specs.Trees.{map_of}
+use Rattle.index_plain.proofs.Words.{sym, ap, ◌∙◌, option_copied, bytes_cmp, plain_tables, pairs_of, map_of}
 use Rattle.index_plain.proofs.UserLemmas.{IsBearer-missed, IsBearer-there, is_known}
 use Rattle.index_plain.proofs.plain.PlainBooks.bearer.Goals as goal
 

@@ -1,9 +1,4 @@
-use Rattle.std.proofs.Common.{◌∙◌, rules}
-use Rattle.std.specs.FinMap.{remove}
-use Rattle.index_rules.specs.Effect.{without_name}
-use Rattle.index_rules.specs.Maps.{bytes_cmp}
-use Rattle.index_plain.specs.Trees.{map_of}
-use Rattle.index_plain.specs.Plain.{plain_tables}
+use Rattle.index_plain.proofs.Words.{◌∙◌, rules, remove, without_name, bytes_cmp, map_of, plain_tables}
 use Rattle.index_plain.proofs.OwnerLemmas.{name_alone}
 use Rattle.index_plain.proofs.plain.PlainBooks.claim.Goals as goal
 

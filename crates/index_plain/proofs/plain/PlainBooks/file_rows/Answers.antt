@@ -1,10 +1,5 @@
-use Rattle.std.proofs.Common.{◌≡◌, [], ◌++◌, sym, ap, ◌∙◌}
-use Rattle.std.proofs.lemmas.Cmp.{nat_list_cmp_total}
-use Rattle.std.proofs.lemmas.Map.Lookups.{exact_bytes}
-use Rattle.std.proofs.lemmas.Map.Iter.{rest_all}
-use Rattle.std.specs.Map.Iter.{deref_pair}
-use Rattle.std.proofs.lemmas.List.{append-nil}
-use Rattle.index_plain.specs.Plain.{plain_tables}
+use Rattle.index_plain.proofs.Words.{◌≡◌, [], ◌++◌, sym, ap, ◌∙◌, nat_list_cmp_total, exact_bytes, rest_all, deref_pair, append-nil}
+use Rattle.index_plain.proofs.Words.{plain_tables}
 use Rattle.index_plain.proofs.RowLemmas.{file_rows_of}
 use Rattle.index_plain.proofs.TreeLemmas.{entries_map}
 use Rattle.index_plain.proofs.plain.PlainBooks.file_rows.Goals as goal

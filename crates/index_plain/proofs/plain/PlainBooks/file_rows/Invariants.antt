@@ -1,5 +1,4 @@
-use Rattle.std.proofs.Common.{◌≡◌, ◌++◌}
-use Rattle.index_plain.specs.Plain.{plain_tables}
+use Rattle.index_plain.proofs.Words.{◌≡◌, ◌++◌, plain_tables}
 use Rattle.index_plain.proofs.RowLemmas.{file_rows_of}
 use Rattle.index_plain.proofs.plain.PlainBooks.file_rows.Given as goal
 

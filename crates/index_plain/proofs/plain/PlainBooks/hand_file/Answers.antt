@@ -1,10 +1,5 @@
-use Rattle.std.proofs.Common.{◌≡◌, true, cond, [], ◌∷◌, rules, sym, ap, ◌∙◌}
-use Rattle.index_rules.specs.declared.records.FileRecord.{FileRecord}
-use Rattle.index_rules.specs.Maps.{Bytes}
-use Rattle.index_rules.specs.Sound.{is_undeleted_of}
-use Rattle.index_rules.specs.TableRows.{file_row_in}
-use Rattle.index_plain.specs.Plain.{plain_tables}
-use Rattle.index_plain.specs.RowsOf.{rows_of_file}
+use Rattle.index_plain.proofs.Words.{◌≡◌, true, cond, [], ◌∷◌, rules, sym, ap, ◌∙◌, FileRecord, Bytes, is_undeleted_of, file_row_in}
+use Rattle.index_plain.proofs.Words.{plain_tables, rows_of_file}
 use Rattle.index_plain.proofs.RowLemmas.{stopped_at_one}
 use Rattle.index_plain.proofs.plain.PlainBooks.hand_file.Goals as goal
 

@@ -1,17 +1,6 @@
-use Rattle.std.proofs.Common.{◌≡◌, Err, rules, sym, ap, subst}
-use Rattle.std.proofs.lemmas.Cmp.{nat_list_cmp_total}
-use Rattle.std.proofs.lemmas.Map.Lookups.{exact_bytes}
-use Rattle.std.proofs.lemmas.Map.Iter.{rest_more, rest_all}
-use Rattle.std.specs.FinMap.{entries}
-use Rattle.std.specs.Map.Iter.{deref_pair}
-use Rattle.index_rules.specs.Rows.{Took}
-use Rattle.index_rules.specs.Walks.{EndsEarly, Walks}
-use Rattle.index_rules.proofs.WalkLemmas.{GoesOn-more, GoesOn-early, GoesOn-all}
-use Rattle.index_rules.specs.declared.records.FileRecord.{FileRecord}
-use Rattle.index_rules.specs.Maps.{Bytes, bytes_cmp}
-use Rattle.index_plain.specs.Plain.{plain_tables}
-use Rattle.index_plain.specs.RowsOf.{rows_of_file}
-use Rattle.index_plain.specs.Trees.{map_of}
+use Rattle.index_plain.proofs.Words.{◌≡◌, Err, rules, sym, ap, subst, nat_list_cmp_total, exact_bytes, rest_more, rest_all, entries}
+use Rattle.index_plain.proofs.Words.{deref_pair, Took, EndsEarly, Walks, GoesOn-more, GoesOn-early, GoesOn-all, FileRecord, Bytes}
+use Rattle.index_plain.proofs.Words.{bytes_cmp, plain_tables, rows_of_file, map_of}
 use Rattle.index_plain.proofs.TreeLemmas.{entries_map}
 use Rattle.index_plain.proofs.RowLemmas.{file_rows_of, file_rows_first}
 use Rattle.index_plain.proofs.plain.PlainBooks.hand_files.Goals as goal

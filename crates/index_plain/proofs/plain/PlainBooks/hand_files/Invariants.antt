@@ -1,5 +1,4 @@
-use Rattle.index_rules.proofs.WalkLemmas.{GoesOn}
-use Rattle.index_plain.specs.Plain.{plain_tables}
+use Rattle.index_plain.proofs.Words.{GoesOn, plain_tables}
 use Rattle.index_plain.proofs.RowLemmas.{file_rows_of}
 use Rattle.index_plain.proofs.plain.PlainBooks.hand_files.Given as goal
 

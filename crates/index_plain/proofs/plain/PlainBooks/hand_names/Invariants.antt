@@ -1,4 +1,4 @@
-use Rattle.index_rules.proofs.WalkLemmas.{GoesOn}
+use Rattle.index_plain.proofs.Words.{GoesOn}
 use Rattle.index_plain.proofs.RowLemmas.{held_rows_of}
 use Rattle.index_plain.proofs.plain.PlainBooks.hand_names.Given as goal
 

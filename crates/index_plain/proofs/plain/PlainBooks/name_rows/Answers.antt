@@ -1,10 +1,5 @@
-use Rattle.std.proofs.Common.{◌≡◌, [], ◌++◌, map, sym, ap, ◌∙◌}
-use Rattle.std.proofs.lemmas.Cmp.{nat_list_cmp_total}
-use Rattle.std.proofs.lemmas.Map.Lookups.{exact_bytes}
-use Rattle.std.proofs.lemmas.Map.Iter.{rest_all}
-use Rattle.std.specs.Map.Iter.{deref_pair}
-use Rattle.std.proofs.lemmas.List.{append-nil}
-use Rattle.index_rules.specs.TableRows.{name_row}
+use Rattle.index_plain.proofs.Words.{◌≡◌, [], ◌++◌, map, sym, ap, ◌∙◌, nat_list_cmp_total, exact_bytes, rest_all, deref_pair, append-nil}
+use Rattle.index_plain.proofs.Words.{name_row}
 use Rattle.index_plain.proofs.TreeLemmas.{entries_map}
 use Rattle.index_plain.proofs.plain.PlainBooks.name_rows.Goals as goal
 

@@ -1,5 +1,4 @@
-use Rattle.std.proofs.Common.{◌≡◌, ◌++◌, map}
-use Rattle.index_rules.specs.TableRows.{name_row}
+use Rattle.index_plain.proofs.Words.{◌≡◌, ◌++◌, map, name_row}
 use Rattle.index_plain.proofs.plain.PlainBooks.name_rows.Given as goal
 
 abbrev pub invariant-loop-name : goal.invariant-loop-name

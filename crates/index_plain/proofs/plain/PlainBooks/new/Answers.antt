@@ -1,5 +1,4 @@
-use Rattle.std.proofs.Common.{subst, sym}
-use Rattle.std.proofs.lemmas.Result.{IfOk-weaker}
+use Rattle.index_plain.proofs.Words.{subst, sym, IfOk-weaker}
 use Rattle.index_rules.specs.Sound.{IsSound}
 use Rattle.index_rules.specs.History.{begins}
 use Rattle.index_rules.specs.StandsFor.{StandsFor}

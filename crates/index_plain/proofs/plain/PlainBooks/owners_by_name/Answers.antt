@@ -1,10 +1,5 @@
-use Rattle.std.proofs.Common.{◌≡◌, refl, sym, ap, ◌∙◌, option_copied}
-use Rattle.std.specs.BTreeMap.{keys}
-use Rattle.std.proofs.lemmas.Cmp.{nat_list_cmp_total}
-use Rattle.std.proofs.lemmas.Result.{IfOk-weaker}
-use Rattle.index_rules.specs.Maps.{bytes_cmp}
-use Rattle.index_plain.specs.Trees.{map_of}
-use Rattle.index_plain.specs.Plain.{plain_tables}
+use Rattle.index_plain.proofs.Words.{◌≡◌, refl, sym, ap, ◌∙◌, option_copied, keys, nat_list_cmp_total, IfOk-weaker, bytes_cmp, map_of}
+use Rattle.index_plain.proofs.Words.{plain_tables}
 use Rattle.index_plain.proofs.TreeLemmas.{get_map}
 use Rattle.index_plain.proofs.OwnerLemmas.{owners_found, no_owners}
 use Rattle.index_plain.proofs.plain.PlainBooks.owners_by_name.Goals as goal

@@ -1,6 +1,4 @@
-use Rattle.std.proofs.Common.{◌∙◌, rules}
-use Rattle.std.specs.FinMap.{remove}
-use Rattle.index_plain.specs.Plain.{plain_tables}
+use Rattle.index_plain.proofs.Words.{◌∙◌, rules, remove, plain_tables}
 use Rattle.index_plain.proofs.OwnerLemmas.{alone_in_place}
 use Rattle.index_plain.proofs.plain.PlainBooks.transfer.Goals as goal
 

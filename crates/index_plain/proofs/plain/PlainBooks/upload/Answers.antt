@@ -1,10 +1,4 @@
-use Rattle.std.proofs.Common.{◌∙◌, rules}
-use Rattle.std.proofs.lemmas.Cmp.{nat_list_cmp_total}
-use Rattle.std.proofs.lemmas.Map.Lookups.{exact_bytes}
-use Rattle.index_rules.specs.declared.records.NameRecord.TheVariants.{Held}
-use Rattle.index_rules.specs.Maps.{bytes_cmp}
-use Rattle.index_plain.specs.Trees.{map_of}
-use Rattle.index_plain.specs.Plain.{plain_tables}
+use Rattle.index_plain.proofs.Words.{◌∙◌, rules, nat_list_cmp_total, exact_bytes, Held, bytes_cmp, map_of, plain_tables}
 use Rattle.index_plain.proofs.TreeLemmas.{is_put, take_back}
 use Rattle.index_plain.proofs.plain.PlainBooks.upload.Goals as goal
 

@@ -1,11 +1,5 @@
-use Rattle.std.proofs.Common.{◌≡◌, rules, ap, ◌∙◌}
-use Rattle.std.specs.BTreeMap.{BTreeMap}
-use Rattle.std.specs.FinMap.{empty, insert, from_entries}
-use Rattle.std.proofs.lemmas.Cmp.{nat_list_cmp_total}
-use Rattle.std.proofs.lemmas.Map.Lookups.{exact_bytes}
-use Rattle.index_rules.specs.declared.records.UserRecord.{UserRecord}
-use Rattle.index_rules.specs.Maps.{Bytes, Map, bytes_cmp}
-use Rattle.index_plain.specs.Pairs.{pairs_of}
+use Rattle.index_plain.proofs.Words.{◌≡◌, rules, ap, ◌∙◌, BTreeMap, empty, insert, from_entries, nat_list_cmp_total, exact_bytes}
+use Rattle.index_plain.proofs.Words.{UserRecord, Bytes, Map, bytes_cmp, pairs_of}
 use Rattle.index_plain.proofs.PairLemmas.{pairs_empty}
 use Rattle.index_plain.proofs.plain.PlainBooks.with_first_user.Goals as goal
 

@@ -1,5 +1,4 @@
-use Rattle.std.proofs.Common.{◌≡◌, ◌++◌}
-use Rattle.std.specs.BTreeMap.{keys}
+use Rattle.index_plain.proofs.Words.{◌≡◌, ◌++◌, keys}
 use Rattle.index_plain.proofs.plain.look.owners_from.Given as goal
 
 abbrev pub invariant-loop-user : goal.invariant-loop-user

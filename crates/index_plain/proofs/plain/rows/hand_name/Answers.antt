@@ -1,7 +1,4 @@
-use Rattle.std.proofs.Common.{◌≡◌, true, cond, [], ◌∷◌, Some, rules, sym, ap, ◌∙◌}
-use Rattle.index_rules.specs.declared.records.NameRecord.{NameRecord}
-use Rattle.index_rules.specs.Maps.{Bytes}
-use Rattle.index_rules.specs.TableRows.{name_row, is_held_row}
+use Rattle.index_plain.proofs.Words.{◌≡◌, true, cond, [], ◌∷◌, Some, rules, sym, ap, ◌∙◌, NameRecord, Bytes, name_row, is_held_row}
 use Rattle.index_rules.specs.Verdict.{is_held}
 use Rattle.index_plain.proofs.RowLemmas.{held_rows_of, stopped_at_one}
 use Rattle.index_plain.proofs.plain.rows.hand_name.Goals as goal

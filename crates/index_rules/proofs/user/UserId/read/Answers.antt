@@ -1,6 +1,5 @@
-use Rattle.std.proofs.Common.{◌≡◌, ◌<◌, ℕ, sym, true, arith}
-use Rattle.std.proofs.lemmas.Bool.{and_parts}
-use Rattle.std.proofs.lemmas.Bool.Decides.{nat_tests}
+use Rattle.index_rules.proofs.Words.{◌≡◌, ℕ, sym, true, arith, and_parts, nat_tests}
+use Rattle.std.proofs.Common.{◌<◌}
 use Rattle.index_rules.specs.Users.{is_user_letter}
 use Rattle.index_names.proofs.AsciiLemmas.{IsAscii-list_all}
 use Rattle.index_rules.proofs.user.UserId.read.Goals as goal

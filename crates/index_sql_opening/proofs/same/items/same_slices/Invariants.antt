@@ -1,4 +1,5 @@
-use Rattle.std.proofs.Common.{◌≡◌, take, length, ◌≤◌}
+use Rattle.index_sql_opening.proofs.Words.{◌≡◌, length, ◌≤◌}
+use Rattle.std.proofs.Common.{take}
 use Rattle.index_sql_opening.proofs.same.items.same_slices.Given as goal
 
 -- the items so far are the same, in lists of one length

@@ -1,4 +1,5 @@
-use Rattle.std.proofs.Common.{◌≡◌, ◌<◌, ◌≤◌, [], ◌∷◌, ◌++◌, ℕ, List, length, take, ap, arith, sym, ◌∙◌}
+use Rattle.index_sql_writes.proofs.Words.{◌≡◌, ◌<◌, ◌≤◌, [], ◌∷◌, ◌++◌, ℕ, List, length, ap, arith, sym, ◌∙◌}
+use Rattle.std.proofs.Common.{take}
 use Rattle.std.proofs.lemmas.List.{length-set, length-take-le, take_more_set}
 use Rattle.index_sql_writes.proofs.step.Steps.then.Goals as goal
 

@@ -1,9 +1,7 @@
-use Rattle.std.proofs.Common.{rules, inl, inr, refl, Err, subst}
+use Rattle.index_tables.proofs.Words.{rules, inl, inr, refl, Err, subst, NotAnIndex, OutOfMemory, Adopts, IsReason}
 use Rattle.std.proofs.lemmas.Result.{IfErr-weaker}
-use Rattle.index_rules.specs.declared.open.OpenFault.TheVariants.{NotAnIndex, OutOfMemory}
 use Rattle.index_tables.proofs.AdoptLemmas.{adopts_by, fault_alone, not_adopted, reason_of_kind}
 use Rattle.index_tables.proofs.OpenedLemmas.{refused_at_once}
-use Rattle.index_tables.specs.Adopted.{Adopts, IsReason}
 use Rattle.index_tables.proofs.adopt.SqlBooks+S+Version2.adopt.Goals as goal
 
 pub returns-then-not-has_meta-clause-adopts : goal.returns-then-not-has_meta-clause-adopts

@@ -1,13 +1,12 @@
-use Rattle.std.proofs.Common.{rules, ◌≡◌, ◌∙◌, IfOk, IfErr, subst, subst₂, sym}
+use Rattle.index_tables.proofs.Words.{rules, ◌≡◌, ◌∙◌, IfOk, IfErr, subst, sym, StandsFor, one_user}
+use Rattle.std.proofs.Common.{subst₂}
 use Rattle.std.proofs.lemmas.Result.{IfOk-weaker}
 use Rattle.index_rules.specs.FirstTables.{first_record, first_tables}
 use Rattle.index_rules.specs.Sound.{IsSound}
 use Rattle.index_rules.specs.History.{begins}
-use Rattle.index_rules.specs.StandsFor.{StandsFor}
 use Rattle.index_rules.proofs.SoundOpened.{IsSound-opened}
 use Rattle.index_rules.proofs.StandsOn.{StandsFor-opened}
 use Rattle.index_sql_opening.specs.NewAsks.{asks_of_new}
-use Rattle.index_sql_opening.specs.Created.{one_user}
 use Rattle.index_tables.specs.Opened.{AreNew, IsNotMade}
 use Rattle.index_tables.proofs.OpenedLemmas.{refused_at_once}
 use Rattle.index_tables.proofs.books.SqlBooks.create.Goals as goal

@@ -1,6 +1,4 @@
-use Rattle.std.proofs.Common.{◌≡◌, rules, subst, sym}
-use Rattle.index_tables.specs.BooksState.{HasVersion}
-use Rattle.index_sql_reads.specs.ConnectionTables.{tables_of}
+use Rattle.index_tables.proofs.Words.{◌≡◌, rules, subst, sym, HasVersion, tables_of}
 use Rattle.index_tables.proofs.books.SqlBooks.into_connection.Goals as goal
 
 pub returns-clause-honest : goal.returns-clause-honest

@@ -1,8 +1,4 @@
-use Rattle.std.proofs.Common.{◌≡◌, is_ok, rules, subst}
-use Rattle.index_io.specs.Counts.{next_count}
-use Rattle.index_rules.specs.StoreFaults.{CountsStoreFault, fails_by_store}
-use Rattle.index_tables.specs.BooksState.{BooksState}
-use Rattle.index_tables.specs.LooksUp.{SqlLooks}
+use Rattle.index_tables.proofs.Words.{◌≡◌, is_ok, rules, subst, next_count, CountsStoreFault, fails_by_store, BooksState, SqlLooks}
 use Rattle.index_tables.proofs.KeptLemmas.{looks_up}
 use Rattle.index_tables.proofs.books.SqlBooksBooks.bytes_of.Goals as goal
 

@@ -1,9 +1,5 @@
-use Rattle.std.proofs.Common.{◌≡◌, is_ok, rules, subst}
-use Rattle.index_io.specs.Counts.{next_count}
-use Rattle.index_rules.specs.TableRows.{file_rows_in}
-use Rattle.index_rules.specs.StoreFaults.{CountsStoreFault, fails_by_store}
-use Rattle.index_tables.specs.BooksState.{BooksState}
-use Rattle.index_tables.specs.LooksUp.{LooksFor}
+use Rattle.index_tables.proofs.Words.{◌≡◌, is_ok, rules, subst, next_count, file_rows_in, CountsStoreFault, fails_by_store, BooksState}
+use Rattle.index_tables.proofs.Words.{LooksFor}
 use Rattle.index_tables.proofs.KeptLemmas.{finds}
 use Rattle.index_tables.proofs.books.SqlBooksBooks.files_of.Goals as goal
 

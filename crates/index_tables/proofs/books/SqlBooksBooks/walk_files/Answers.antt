@@ -1,11 +1,5 @@
-use Rattle.std.proofs.Common.{◌≡◌, not, rules, subst}
-use Rattle.index_io.specs.Counts.{next_count}
-use Rattle.index_rules.specs.TableRows.{file_rows_in}
-use Rattle.index_rules.specs.Tables.{Tables}
-use Rattle.index_rules.specs.Walks.{has_fault, to_taker}
-use Rattle.index_rules.specs.StoreFaults.{CountsStoreFault, ends_by_store}
-use Rattle.index_tables.specs.BooksState.{BooksState}
-use Rattle.index_tables.specs.LooksUp.{WalksBooks, with_books}
+use Rattle.index_tables.proofs.Words.{◌≡◌, not, rules, subst, next_count, file_rows_in, Tables, has_fault, to_taker, CountsStoreFault}
+use Rattle.index_tables.proofs.Words.{ends_by_store, BooksState, WalksBooks, with_books}
 use Rattle.index_tables.proofs.KeptLemmas.{walks}
 use Rattle.index_tables.proofs.books.SqlBooksBooks.walk_files.Goals as goal
 

@@ -1,10 +1,6 @@
-use Rattle.std.proofs.Common.{◌≡◌, not, rules, subst}
-use Rattle.index_io.specs.Counts.{next_count}
+use Rattle.index_tables.proofs.Words.{◌≡◌, not, rules, subst, next_count, has_fault, to_taker, CountsStoreFault, ends_by_store, BooksState}
+use Rattle.index_tables.proofs.Words.{WalksBooks, with_books}
 use Rattle.index_rules.specs.TableRows.{held_rows_in}
-use Rattle.index_rules.specs.Walks.{has_fault, to_taker}
-use Rattle.index_rules.specs.StoreFaults.{CountsStoreFault, ends_by_store}
-use Rattle.index_tables.specs.BooksState.{BooksState}
-use Rattle.index_tables.specs.LooksUp.{WalksBooks, with_books}
 use Rattle.index_tables.proofs.KeptLemmas.{walks}
 use Rattle.index_tables.proofs.books.SqlBooksBooks.walk_held.Goals as goal
 

@@ -1,11 +1,6 @@
-use Rattle.std.proofs.Common.{◌≡◌, ◌∙◌, ap, rules, is_ok, subst}
-use Rattle.index_io.specs.Counts.{next_count}
+use Rattle.index_tables.proofs.Words.{◌≡◌, ◌∙◌, ap, rules, is_ok, subst, next_count, CountsStoreFault, fails_by_store, IsIndexConnection}
+use Rattle.index_tables.proofs.Words.{MakesChange, IsInvisibleIfShut, BooksState, HasVersion}
 use Rattle.index_rules.specs.Effect.{means}
-use Rattle.index_rules.specs.StoreFaults.{CountsStoreFault, fails_by_store}
-use Rattle.index_sql_schema.specs.Looks.{IsIndexConnection}
-use Rattle.index_sql_writes.specs.Changed.{MakesChange}
-use Rattle.index_sql_writes.specs.Transaction.{IsInvisibleIfShut}
-use Rattle.index_tables.specs.BooksState.{BooksState, HasVersion}
 use Rattle.index_tables.proofs.WriteLemmas.{honest_old, index_after, meta_kept, told_ok, write_alone, write_crash, write_keeps_version}
 use Rattle.index_tables.proofs.WriteLemmas.{write_lasts, write_records}
 use Rattle.index_tables.proofs.books.SqlBooksBooks.write.Goals as goal

@@ -1,5 +1,4 @@
-use Rattle.std.proofs.Common.{rules, inl, inr, refl, subst}
-use Rattle.index_rules.specs.declared.open.OpenFault.TheVariants.{NotAnIndex, OutOfMemory}
+use Rattle.index_tables.proofs.Words.{rules, inl, inr, refl, subst, NotAnIndex, OutOfMemory}
 use Rattle.index_tables.specs.Placed.{IsNotPlaced, TakesPlaced}
 use Rattle.index_tables.proofs.OpenedLemmas.{refused_at_once}
 use Rattle.index_tables.proofs.PlacedLemmas.{refused_unlike}

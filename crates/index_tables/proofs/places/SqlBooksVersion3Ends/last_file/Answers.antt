@@ -1,8 +1,4 @@
-use Rattle.std.proofs.Common.{IfOk, subst}
-use Rattle.index_sql_reads.specs.ConnectionTables.{tables_of}
-use Rattle.index_sql_schema.proofs.LookLemmas.{looks_kept}
-use Rattle.index_volume_books.specs.Last.{IsLast}
-use Rattle.index_tables.specs.BooksState.{BooksState}
+use Rattle.index_tables.proofs.Words.{IfOk, subst, tables_of, looks_kept, IsLast, BooksState}
 use Rattle.index_tables.proofs.KeptLemmas.{version_kept}
 use Rattle.index_tables.proofs.PlaceLemmas.{works_if_open}
 use Rattle.index_tables.proofs.places.SqlBooksVersion3Ends.last_file.Goals as goal

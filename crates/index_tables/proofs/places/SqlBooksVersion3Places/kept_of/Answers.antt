@@ -1,4 +1,4 @@
-use Rattle.index_sql_schema.proofs.LookLemmas.{looks_kept}
+use Rattle.index_tables.proofs.Words.{looks_kept}
 use Rattle.index_tables.proofs.KeptLemmas.{version_kept}
 use Rattle.index_tables.proofs.PlaceLemmas.{works_if_open}
 use Rattle.index_tables.proofs.places.SqlBooksVersion3Places.kept_of.Goals as goal

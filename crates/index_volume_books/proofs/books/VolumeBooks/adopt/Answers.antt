@@ -1,6 +1,4 @@
-use Rattle.std.proofs.Common.{sym, subst₂}
-use Rattle.index_volume_books.specs.Taken.{AreTaken}
-use Rattle.index_volume_books.specs.Through.{Side, side_of}
+use Rattle.index_volume_books.proofs.Words.{sym, subst₂, AreTaken, Side, side_of}
 use Rattle.index_volume_books.proofs.TakenLemmas.{taken_by}
 use Rattle.index_volume_books.proofs.books.VolumeBooks.adopt.Goals as goal
 

@@ -1,5 +1,4 @@
-use Rattle.std.proofs.Common.{◌≡◌, refl, sym, ap, ◌∙◌, Some, is_ok, option_map, rules}
-use Rattle.index_volume_books.specs.Through.{side_of}
+use Rattle.index_volume_books.proofs.Words.{◌≡◌, refl, sym, ap, ◌∙◌, Some, is_ok, option_map, rules, side_of}
 use Rattle.index_volume_books.proofs.ThroughLemmas.{finds_through, found_none, found_some}
 use Rattle.index_volume_books.proofs.books.VolumeBooks.find_bytes.Goals as goal
 

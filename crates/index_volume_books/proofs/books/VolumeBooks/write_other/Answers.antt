@@ -1,11 +1,4 @@
-use Rattle.std.proofs.Common.{◌≡◌, ◌⊎◌, refl, sym, ◌∙◌, subst, []}
-use Rattle.std.specs.Result.{OnOk}
-use Rattle.index_rules.specs.Tables.{Tables}
-use Rattle.index_volume_books.specs.Over.{Fits}
-use Rattle.std.proofs.lemmas.Bool.{false≢true}
-use Rattle.index_rules.specs.Effect.{means}
-use Rattle.index_volume_books.specs.OverLaws.{over_same}
-use Rattle.index_volume_books.specs.Through.{side_of}
+use Rattle.index_volume_books.proofs.Words.{◌≡◌, ◌⊎◌, refl, sym, ◌∙◌, subst, [], OnOk, Tables, Fits, false≢true, means, over_same, side_of}
 use Rattle.index_volume_books.proofs.ThroughLemmas.{stored_other, fits_other, fits_written, fits_left, writes_through}
 use Rattle.index_volume_books.proofs.books.VolumeBooks.write_other.Goals as goal
 

@@ -1,10 +1,6 @@
-use Rattle.std.proofs.Common.{◌≡◌, ◌⊎◌, refl, sym, ap, ◌∙◌, subst, take, IsTrue, rules}
-use Rattle.std.specs.Result.{OnOk}
+use Rattle.index_volume_books.proofs.Words.{◌≡◌, ◌⊎◌, refl, sym, ap, ◌∙◌, subst, take, IsTrue, rules, OnOk, means, Tables, Fits, over}
+use Rattle.index_volume_books.proofs.Words.{with_stored, side_of}
 use Rattle.index_rules.specs.declared.change.Change.TheVariants as change
-use Rattle.index_rules.specs.Effect.{means}
-use Rattle.index_rules.specs.Tables.{Tables}
-use Rattle.index_volume_books.specs.Over.{Fits, over, with_stored}
-use Rattle.index_volume_books.specs.Through.{side_of}
 use Rattle.index_volume_books.proofs.OverLemmas.{fits_means}
 use Rattle.index_volume_books.proofs.ThroughLemmas.{fits_more, fits_written, fits_left, writes_through, writes_nothing}
 use Rattle.index_volume_books.proofs.books.VolumeBooks.write_upload.Goals as goal

@@ -1,5 +1,4 @@
-use Rattle.std.proofs.Common.{ap, sym, subst, rules}
-use Rattle.index_volume_books.specs.Over.{Fits, over}
+use Rattle.index_volume_books.proofs.Words.{ap, sym, subst, rules, Fits, over}
 use Rattle.index_volume_books.proofs.books.VolumeBooksBooks.walk_files.Goals as goal
 
 pub returns-clause-looks : goal.returns-clause-looks
