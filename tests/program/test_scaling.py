@@ -5,15 +5,16 @@ import math
 import re
 
 from support.places import TOP
+from support.planted import catches
 
-MIB, GBIT = 1 << 20, 10 ** 9 / 8
-# what the page's users do, the machines that it reckons with, and what it says of an index and of nginx
+MIB, GIB, GBIT = 1 << 20, 1 << 30, 10 ** 9 / 8
+# what the page says of a start, the network and the users that it reckons with, and what it says of nginx
 SAID = re.compile(
-    r"memory: ([\d.]+) times the bytes of the database.*?an index below (\d+) GB.*?"
-    r"with (\d+) GB free and (\d+) Gbit/s.*?"
+    r"time: (\d+) s for each GiB, (\d+) s for each million files, and half a second for the log.*?"
+    r"about (\d+) bytes for each file.*?nginx with (\d+) Gbit/s.*?"
     r"installs (\d+) packages of 1 MiB (\d+) times a day, a fifth of them in one hour.*?"
     r"([\d,]+) pages and ([\d,]+) files\S+ a second, .*? ([\d,]+) users for each Gbit/s", re.DOTALL)
-ROW = re.compile(r"^\| ([\d,]+) \| ([\d,]+) \| (\d+) \| (\d+) \| (\d+) \|$", re.MULTILINE)
+ROW = re.compile(r"^\| ([\d,]+) \| ([\d,]+) \| (\d+) \| (\d+) \|$", re.MULTILINE)
 
 
 def page(name):
@@ -55,12 +56,14 @@ def test_the_network_of_an_nginx_is_the_limit_as_the_page_says(looked):
     looked(0.9 < told / by_gigabit <= 1, told, by_gigabit)
 
 
-def test_each_row_has_as_many_machines_as_its_figures_need(looked):
-    more, of_index, free, gigabits, *_ = said()
+@catches("docs/operators/SCALING.md", "| 100,000 | 100 | 2 | 3 |", "| 100,000 | 100 | 3 | 3 |")
+@catches("docs/operators/SCALING.md", "| 500,000 | 1,000 | 14 | 14 |", "| 500,000 | 1,000 | 14 | 10 |")
+def test_each_row_has_the_start_and_as_many_nginx_as_its_figures_make(looked):
+    of_gib, of_million, of_file, gigabits, *_ = said()
     _, by_gigabit = users_of_nginx()
     rows = ROW.findall(page("SCALING"))
     looked(len(rows) == 3, rows)
-    for users, size, machines, pairs, nginx in ([number(it) for it in row] for row in rows):
-        looked(machines == math.ceil(size * more / free), size, machines)
-        looked(pairs == 2 * math.ceil(size / of_index), size, pairs)
+    for users, size, seconds, nginx in ([number(it) for it in row] for row in rows):
+        files = size * 10 ** 9 / MIB
+        looked(seconds == round(files * (of_million / 10 ** 6 + of_gib * of_file / GIB) + 0.5), size, seconds)
         looked(nginx == math.ceil(users / (by_gigabit * gigabits)), users, nginx)

@@ -13,10 +13,7 @@ from support.server.pasted import block
 from support.server.stand_ins import called, stand_ins
 from support.server.watched import unit
 
-# what is turned on once for a machine, however many indexes it has
-FOR_ALL = {"index-alarms.timer", "index-certificate.timer", "index-uncache-follow.service"}
 PAGES = "INSTALL", "OPERATING", "RECOVERY", "SCALING"
-THREE = "office=$(openssl rand -hex 32)\nfor"
 
 
 def page(name: str) -> str:
@@ -102,17 +99,6 @@ def test_what_a_block_calls_comes_with_the_package():
     # and what no block calls: it names callers, and rotates their log
     others = {"libnginx-mod-http-js", "logrotate"}
     assert called_there | others == {it.split()[0] for it in recommended.split(", ")}
-
-
-def test_several_indexes_turn_on_what_tells_and_what_forgets():
-    assert FOR_ALL <= set(block(THREE).split())
-
-
-def test_nginx_asks_new_indexes_only_once_they_have_what_the_one_before_had():
-    """Else each name that was held is free, and a banned file may come again."""
-    before, _, after = page("SCALING").partition(block(THREE))
-    assert "index-backup.service" in before and "shards.conf /etc/nginx" not in block(THREE)
-    assert "restore that backup" in after.partition(block("cp /usr/share/package-index/shards.conf"))[0]
 
 
 def test_the_page_names_the_number_of_copies_that_the_unit_keeps():

@@ -1,4 +1,4 @@
-"""A Debian package, and its life: installed, upgraded, taken back, spread over several indexes, removed and purged.
+"""A Debian package, and its life: installed, upgraded, taken back, with one more index, removed and purged.
 
 That is done in a root of its own, which has all that this machine has: an overlay in a mount namespace, gone at the
 end. Each step is taken once, in this order, and leaves what was seen."""
@@ -209,7 +209,7 @@ class Life:
 
     @functools.cached_property
     def several(self) -> dict:
-        """A database is shrunk, and three indexes take the place of one."""
+        """A database is shrunk, and one more index is made beside it."""
         assert self.moved
         root = self.root
         root.sh("runuser -u index -- sqlite3 /var/lib/index/index.db 'CREATE TABLE x (y)' 'INSERT INTO x VALUES "
@@ -218,10 +218,9 @@ class Life:
         seen["shrunk"] = root.sh("index-reseal /var/lib/index/index.db /sealed.db && install -o index -g index -m 600 "
                                  "/sealed.db /var/lib/index/index.db")
         seen["after"], seen["held"] = self.size(), self.held()
-        three = block("office=$(openssl rand -hex 32)\nfor")
-        seen["three"] = root.sh(three + block("cp /usr/share/package-index/shards.conf"))
-        seen["three again"] = root.sh(three)
-        seen["modes"] = root.sh("stat -c '%U %a' /var/lib/index/808[012] /var/lib/index/808[012]/index.db").stdout
+        other = block("office=$(openssl rand -hex 32) port=8081")
+        seen["other"], seen["other again"] = root.sh(other), root.sh(other)
+        seen["modes"] = root.sh("stat -c '%U %a' /var/lib/index/8081 /var/lib/index/8081/index.db").stdout
         seen["asked"] = root.sh("cat /systemctl.log").stdout
         return seen
 
