@@ -24,9 +24,9 @@ SOON, PATIENCE = 2, 60
 class Machine:
     """An nginx before the index with its own cache, and the runs of index-uncache-follow on its machine."""
 
-    def __init__(self, folder, certificate, *ports):
+    def __init__(self, folder, certificate, port):
         self.folder, self.certificate = folder, certificate
-        self.nginx = Front(folder, certificate, *ports)
+        self.nginx = Front(folder, certificate, port)
         self.nginx.put("index/server.d/fronts.conf", kept("fronts.conf"), **{
             "allow 192.0.2.1;": "allow 127.0.0.1;", "/var/lib/index-uncache/": f"{folder}/"})
 
@@ -207,8 +207,8 @@ def test_a_list_that_another_has_replaced_is_read_from_its_start(both):
         assert two.soon_lacks(*FILES[1:3])[0]
 
 
-def test_a_list_is_given_beside_a_password_for_readers_and_with_several_indexes(kept_index, named, folder):
-    machine = Machine(f"{folder}/one", named, kept_index.port, kept_index.port, kept_index.port)
+def test_a_list_is_given_beside_a_password_for_readers(kept_index, named, folder):
+    machine = Machine(f"{folder}/one", named, kept_index.port)
     machine.nginx.put("index/server.d/password.conf", kept("password.conf"),
                       **{"/etc/nginx/index/readers.htpasswd": "/dev/null"})
     fronts.add_line(f"{folder}/one/removed", "{}")

@@ -1,4 +1,4 @@
-"""nginx as server/nginx has it, in front of indexes on loopback, with a certificate that is made on the spot."""
+"""nginx as server/nginx has it, in front of an index, with a certificate that is made on the spot."""
 from __future__ import annotations
 
 import http.client
@@ -154,10 +154,10 @@ class Nginx(Running):
 
 
 class Front(Nginx, Asking):
-    """nginx in front of the indexes at these ports of loopback, or at these addresses; with several, as shards.conf has
-    it. A plain one speaks no TLS. Pages are kept for so many seconds."""
+    """nginx in front of the index at this port of loopback, or at this address. A plain one speaks no TLS. Pages are
+    kept for so many seconds."""
 
-    def __init__(self, folder: str, certificate: str, *behind: int | str, pypi: int | None = None,
+    def __init__(self, folder: str, certificate: str, behind: int | str, pypi: int | None = None,
                  is_plain: bool = False, page_seconds: int = 1):
         super().__init__(folder)
         self.certificate, self.url = certificate, f"http{'' if is_plain else 's'}://127.0.0.1:{self.port}"
@@ -180,9 +180,8 @@ class Front(Nginx, Asking):
                  **({" 1s;": f" {page_seconds}s;"} if page_seconds != 1 else {}))
         for name in ("callers.conf", "callers.js"):
             self.put(f"index/{name}", kept(name))
-        ports = {f"127.0.0.1:{8080 + at}": it if isinstance(it, str) else f"127.0.0.1:{it}"
-                 for at, it in enumerate(behind)}
-        self.put("index/indexes.conf", kept("one-index.conf" if len(behind) == 1 else "shards.conf"), **ports)
+        self.put("index/indexes.conf", kept("one-index.conf"),
+                 **{"127.0.0.1:8080": behind if isinstance(behind, str) else f"127.0.0.1:{behind}"})
         if pypi:
             self.put("index/server.d/with-pypi.conf", kept("with-pypi.conf"),
                      **{"https://pypi.org": f"http://127.0.0.1:{pypi}"})

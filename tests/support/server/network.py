@@ -10,7 +10,7 @@ from contextlib import ExitStack, contextmanager
 from support.running import run_command
 
 # addresses for documentation, which no network has
-HERE, HOSTS = "192.0.2.1", ("192.0.2.11", "192.0.2.12", "192.0.2.13")
+HERE, THERE = "192.0.2.1", "192.0.2.11"
 CLONE_NEWNET = 0x40000000
 LIBC = ctypes.CDLL(None, use_errno=True)
 
@@ -32,16 +32,16 @@ def ip(words: str, under: Sequence[str] = ()) -> None:
         raise Refused(f"ip {words}: {ended.stdout.strip()}")
 
 
-def forget_hosts() -> None:
-    """nginx's host forgets where the others are, and what it has for one that it did not find."""
+def forget_host() -> None:
+    """nginx's host forgets where the other is, and what it has for one that it did not find."""
     ip("neighbour flush dev switch")
 
 
 class Host:
     """A host with an address and a cable. `under` are the words of a command that becomes one on this host."""
 
-    def __init__(self, at: int):
-        self.at, self.address = at, HOSTS[at]
+    def __init__(self) -> None:
+        self.address = THERE
         self.under: Sequence[str] = ()
         words = ["unshare", "--net", "sh", "-c", "echo ready; exec sleep 3600"]
         self.holder = subprocess.Popen(words, stdin=subprocess.DEVNULL, stdout=subprocess.PIPE,
@@ -53,8 +53,8 @@ class Host:
         try:
             if said != "ready\n":
                 raise Refused(said.strip())
-            ip(f"link add cable{self.at} type veth peer name eth0 netns {self.holder.pid}")
-            ip(f"link set cable{self.at} master switch up")
+            ip(f"link add cable type veth peer name eth0 netns {self.holder.pid}")
+            ip("link set cable master switch up")
             self.under = ["nsenter", f"--target={self.holder.pid}", "--net", "--"]
             ip(f"address add {self.address}/24 dev eth0", self.under)
             for link in ("lo", "eth0"):
@@ -74,7 +74,7 @@ class Host:
     def unplugged(self) -> Iterator[None]:
         """The host's cable is out as long as the block lasts, and nginx's host has noticed, as it does in seconds."""
         ip("link set eth0 down", self.under)
-        forget_hosts()
+        forget_host()
         try:
             yield
         finally:
@@ -84,8 +84,8 @@ class Host:
 class Loopback:
     """An address of loopback that stands for a host, with a cable that stays in."""
 
-    def __init__(self, at: int):
-        self.address, self.under = f"127.0.0.{at + 2}", ()
+    def __init__(self) -> None:
+        self.address, self.under = "127.0.0.2", ()
 
     @contextmanager
     def unplugged(self) -> Iterator[None]:
@@ -112,14 +112,14 @@ def of_its_own() -> Iterator[None]:
 
 
 @contextmanager
-def three_hosts() -> Iterator[tuple[list, Refused | None]]:
-    """Three hosts in a network of their own, or three addresses of loopback and what was refused."""
+def another_host() -> Iterator[tuple[Host | Loopback, Refused | None]]:
+    """A host in a network of its own, or an address of loopback and what was refused."""
     with ExitStack() as made:
+        host: Host | Loopback
         try:
             made.enter_context(of_its_own())
-            hosts: list[Host] | list[Loopback] = [made.enter_context(Host(at)) for at in range(len(HOSTS))]
-            refused = None
+            host, refused = made.enter_context(Host()), None
         except Refused as end:
             made.close()
-            hosts, refused = [Loopback(at) for at in range(len(HOSTS))], end
-        yield hosts, refused
+            host, refused = Loopback(), end
+        yield host, refused
