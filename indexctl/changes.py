@@ -18,19 +18,12 @@ from indexctl.settings import find_setting
 from indexctl.terminal import note, say_row
 from indexctl.transport import Headers, Index, Request, foreign, object_of
 from indexctl.units import moment_now
-from package_index.names import file_path, normal
+from package_index.names import file_path
 
 Row = Mapping[str, object]
 NOTHING_MORE: Row = MappingProxyType({})
 # what the index never answers by Already: the same again would be another attempt, another case, or a refusal
 NEVER_ALREADY = ("open_case", "record_attempt", "transfer", "close_case", "answer_case", "relinquish")
-
-
-def name_in(row: Row) -> str:
-    """The name of the project that a request is about, or an empty text."""
-    if row.get("name"):
-        return str(row["name"])
-    return project_of(str(row["file"])) if row.get("file") else ""
 
 
 class Desk:
@@ -61,11 +54,8 @@ class Desk:
     def send(self, what: str, row: Row, request: Request, token: Optional[str] = None, is_kept: bool = True,
              more: Row = NOTHING_MORE) -> Tuple[int, str]:
         """The status and the name of the answer to a change. An accepted one is in the record then."""
-        token, name = token or self.token(), name_in(row)
-        # of several indexes behind one address, nginx chooses by the last of these headers
+        token = token or self.token()
         headers: Headers = (*request.headers, ("X-Index-Token", token))
-        # (a record that is replayed may have any text for a name)
-        headers += (("X-Index-Name", normal(name)),) if name and name.isascii() and name.isprintable() else ()
         request = replace(request, headers=headers, is_once=is_kept and row["do"] in NEVER_ALREADY)
         line: Row = {"at": moment_now(), "caller": sha256(token)[:8], "index": self.setting.url, **more, **row}
         with self.room(line, is_kept) as keep:
@@ -153,10 +143,8 @@ class Desk:
         return self.post(name, row, is_kept=False)[1] == "NoRelease"
 
     def caller(self) -> str:
-        """Whether the token is of the office, of another user, or of nobody; unknown if the address leads to several
-        indexes.
+        """Whether the token is of the office, of another user, or of nobody.
 
         It asks to allow `-`, which is no name, so that nothing can change."""
         answer = self.post("the token", {"do": "allow", "name": "-"}, is_kept=False)[1]
-        known = {"BadName": "office", "NotOffice": "user", "NoIndexName": "unknown"}
-        return known.get(answer, "nobody")
+        return {"BadName": "office", "NotOffice": "user"}.get(answer, "nobody")

@@ -145,8 +145,6 @@ def token_of(desk: Desk) -> Finding:
     if caller == "nobody":
         return Finding("token", WRONG, f"from {desk.setting.source}: no user has it", "Correct it there, or ask the "
                        "office for another.")
-    if caller == "unknown":
-        return Finding("token", LOOK, "the address leads to several indexes", "Name each by an address of its own.")
     return Finding("token", WELL, f"of {'the office' if caller == 'office' else 'a user'}, from {desk.setting.source}")
 
 

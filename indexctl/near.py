@@ -38,7 +38,7 @@ def did_you_mean(text: str, known: Sequence[str]) -> str:
 def not_held(index: Index, name: str) -> str:
     """That nobody holds a name, and which one was perhaps meant."""
     known: List[str] = []
-    # several indexes behind one address have no list
+    # what is not held is known without the list
     with suppress(Stop):
         known = listed_names(index)
     return f"Nobody holds {name}.{did_you_mean(normal(name), known) or ' `indexctl names` lists all names.'}"

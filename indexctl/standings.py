@@ -10,7 +10,7 @@ from contextlib import suppress
 from dataclasses import dataclass, field
 from typing import Any, Callable, Dict, Iterator, List, Optional, Sequence, Tuple, TypeVar, get_type_hints
 
-from indexctl.ends import REFUSED, WRONG, Stop
+from indexctl.ends import REFUSED, UNREACHED, Stop
 from indexctl.names import is_text
 from indexctl.terminal import Progress
 from indexctl.transport import JSON_PAGE, Index, Request, foreign, object_of
@@ -126,7 +126,7 @@ def find_page(index: Index, path: str, rows: str, key: str, is_fresh: bool = Fal
     more = f", application/x-fresh-{secrets.token_hex(8)}" if is_fresh else ""
     reply = index.ask(path, Request("GET", path, (("Accept", f"{JSON_PAGE}{more}"),)))
     found = object_of(reply.body) or {}
-    if reply.status == 404 and found.get("name") in ("NoProject", "NoIndexName"):
+    if reply.status == 404 and found.get("name") == "NoProject":
         return None
     listed = found.get(rows)
     if reply.status != 200 or not isinstance(listed, list):
@@ -184,8 +184,7 @@ def listed_names(index: Index, is_fresh: bool = False) -> List[str]:
     """The held names, in the order of the index's list."""
     listed = find_page(index, "/simple/", "projects", "name", is_fresh)
     if listed is None:
-        raise Stop(WRONG, f"{index.setting.url} leads to several indexes, which have no list of names together. Name "
-                          "each by an address of its own.")
+        raise Stop(UNREACHED, f"{index.setting.url}/simple/ is not there, and each index has it.")
     return [it["name"] for it in listed["projects"]]
 
 

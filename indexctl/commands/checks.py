@@ -6,7 +6,7 @@ import argparse
 from indexctl.changes import Desk
 from indexctl.command_line import command
 from indexctl.commands.arguments import JSON
-from indexctl.ends import REFUSED, WRONG, Stop
+from indexctl.ends import REFUSED
 from indexctl.terminal import listing, texts
 
 
@@ -15,9 +15,6 @@ def token_check(args: argparse.Namespace) -> int:
     """Nothing is changed by it."""
     desk = Desk(args)
     caller = desk.caller()
-    if caller == "unknown":
-        raise Stop(WRONG, f"{desk.setting.url} leads to several indexes, each with users of its own. Name each by an "
-                          "address of its own.")
     row = {"url": desk.setting.url, "from": desk.setting.place, "token": desk.setting.source, "caller": caller}
     listing(args, [row], texts("url", "from", "token", "caller"))
     return REFUSED if caller == "nobody" else 0

@@ -14,8 +14,8 @@ NETRC = "machine 127.0.0.1 login __token__ password office\n"
 PLAIN, NONE = {"INDEX_TOKEN": None}, {"INDEX_URL": None, "INDEX_TOKEN": None}
 
 
-@catches("indexctl/changes.py", 'known = {"BadName": "office", "NotOffice": "user", "NoIndexName": "unknown"}',
-         'known = {"BadToken": "office", "BadName": "x", "NotOffice": "x"}',
+@catches("indexctl/changes.py", '{"BadName": "office", "NotOffice": "user"}',
+         '{"BadToken": "office", "BadName": "x", "NotOffice": "x"}',
          also=["test_a_token_that_nobody_has_is_told", "test_a_token_in_a_file_of_mode_600_is_taken",
                "test_a_token_in_netrc_is_taken", "test_a_profile_names_the_index_and_a_file_with_the_token",
                "test_a_token_is_printed_where_it_was_made_alone"])

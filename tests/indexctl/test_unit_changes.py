@@ -5,7 +5,7 @@ import json
 
 import pytest
 from indexctl import changes
-from indexctl.changes import Desk, name_in
+from indexctl.changes import Desk
 from indexctl.ends import REFUSED, UNREACHED, WRONG, Stop
 from indexctl.names import sha256
 from indexctl.transport import Request, replace
@@ -30,30 +30,22 @@ def desk(monkeypatch):
     return lambda *replies, **setting: desk_of(monkeypatch, *replies, **setting)
 
 
-@pytest.mark.parametrize("row, name", [({"name": "A"}, "A"), ({"file": "A_b-1.tar.gz"}, "a-b"), ({}, ""),
-                                       ({"user": "x"}, ""), ({"name": "", "file": ""}, "")])
-def test_a_request_is_about_a_name_or_a_file_s_project(row, name):
-    assert name_in(row) == name
-
-
-def test_a_request_goes_out_with_the_token_and_the_name(desk):
+def test_a_request_goes_out_with_the_token(desk):
     one = desk(answer())
     assert one.change("x", {"do": "claim", "name": "A_b"})
     sent = one.index.asked[0]
     assert (sent.method, sent.path, sent.is_once) == ("POST", "/requests", False)
-    assert dict(sent.headers) == {"X-Index-Token": "office", "X-Index-Name": "a-b"}
+    assert dict(sent.headers) == {"X-Index-Token": "office"}
     body = b"".join(sent.pieces())
     assert (json.loads(body), sent.length) == ({"do": "claim", "name": "A_b"}, len(body))
 
 
-@catches("indexctl/changes.py", "if name and name.isascii() and name.isprintable() else ()", "if name else ()")
-@pytest.mark.parametrize("row", [{"do": "add_user", "user": "bob"}, *({"do": "claim", "name": it} for it in (
-    "\u4e2d", "\ud800", "a\r\nb"))])
-def test_a_request_without_a_name_has_no_header_for_it(desk, row):
-    """A line of a record may have any text for a name: the index refuses it, and the replay goes on."""
+@pytest.mark.parametrize("name", ["\u4e2d", "\ud800", "a\r\nb"])
+def test_any_text_for_a_name_goes_out(desk, name):
+    """A line of a record may have it: the index refuses it, and the replay goes on."""
     one = desk(answer())
-    one.change("x", row)
-    assert dict(one.index.asked[0].headers) == {"X-Index-Token": "office"}
+    one.change("x", {"do": "claim", "name": name})
+    assert json.loads(b"".join(one.index.asked[0].pieces())) == {"do": "claim", "name": name}
 
 
 def test_a_request_can_go_out_by_another_token(desk, tmp_path):
@@ -177,7 +169,7 @@ def test_a_file_is_deleted_by_its_path(desk):
     assert one.delete("A_b-1.0+x.tar.gz")
     sent = one.index.asked[0]
     assert (sent.method, sent.path) == ("DELETE", "/files/a-b/A_b-1.0%2Bx.tar.gz")
-    assert (sent.pieces, sent.length, dict(sent.headers)["X-Index-Name"]) == (None, 0, "a-b")
+    assert (sent.pieces, sent.length) == (None, 0)
 
 
 def test_a_look_at_the_token_is_told_as_what_it_is_at_any_try(desk):
@@ -208,8 +200,7 @@ def test_who_may_not_ask_for_users_is_told(desk):
     assert end.value.status == REFUSED
 
 
-@pytest.mark.parametrize("name, caller", [("BadName", "office"), ("NotOffice", "user"), ("BadToken", "nobody"),
-                                          ("NoIndexName", "unknown")])
+@pytest.mark.parametrize("name, caller", [("BadName", "office"), ("NotOffice", "user"), ("BadToken", "nobody")])
 def test_a_caller_is_of_the_office_or_a_user_or_nobody(desk, tmp_path, name, caller):
     one = desk(answer(400, "refused", name=name), record=str(tmp_path / "none" / "r"))
     assert one.caller() == caller
@@ -219,4 +210,4 @@ def test_a_caller_is_of_the_office_or_a_user_or_nobody(desk, tmp_path, name, cal
 def test_headers_of_a_request_stay(desk):
     one = desk(answer(201))
     one.send("x", {"do": "upload", "file": "a-1.tar.gz"}, Request("PUT", "/x", (("X-Index-SHA256", "d"),)))
-    assert dict(one.index.asked[0].headers) == {"X-Index-SHA256": "d", "X-Index-Token": "office", "X-Index-Name": "a"}
+    assert dict(one.index.asked[0].headers) == {"X-Index-SHA256": "d", "X-Index-Token": "office"}

@@ -122,8 +122,8 @@ def test_a_name_that_nobody_holds_names_those_near_it(projects, said):
     assert near.not_held(FakeIndex(listed), "forb") == said
 
 
-def test_several_indexes_without_a_list_name_none():
-    assert near.not_held(FakeIndex(reply(404, b'{"name": "NoIndexName"}')), "x").startswith("Nobody holds x. `indexctl")
+def test_a_list_that_can_t_be_had_names_none():
+    assert near.not_held(FakeIndex(reply(503, b"")), "x").startswith("Nobody holds x. `indexctl")
 
 
 @pytest.mark.parametrize("is_terminal", [True, False])

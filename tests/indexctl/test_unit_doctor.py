@@ -70,7 +70,7 @@ def test_another_version_is_to_be_looked_at(status, body, wanted):
     assert found.state == wanted and ("curl -fsSO http://127.0.0.1:9/indexctl" in found.do) == (wanted == LOOK)
 
 
-@pytest.mark.parametrize("caller, wanted", [("office", WELL), ("user", WELL), ("nobody", WRONG), ("unknown", LOOK)])
+@pytest.mark.parametrize("caller, wanted", [("office", WELL), ("user", WELL), ("nobody", WRONG)])
 def test_a_token_is_of_somebody_or_wrong(caller, wanted):
     found = doctor.token_of(FakeDesk(caller=caller))
     assert found.state == wanted and bool(found.do) == (wanted != WELL)

@@ -191,13 +191,6 @@ def test_a_file_may_be_named_by_its_path(run, verb, do, path):
     assert run.asked("file", verb, path) == [{"do": do, "file": "frob-1.0.tar.gz"}]
 
 
-@catches("indexctl/commands/checks.py", 'if caller == "unknown":', 'if caller == "x":')
-def test_an_address_of_several_indexes_tells_of_no_token(run):
-    run.desk.is_caller = "unknown"
-    with pytest.raises(Stop, match="leads to several indexes, each with users of its own"):
-        run("token", "check")
-
-
 @pytest.mark.parametrize("option", ["--contact", "--work", "--why"])
 def test_bytes_of_a_case_that_are_no_text_are_told(run, option):
     words = {"--contact": "c", "--work": "w", "--why": "y", option: "gr\udcf6"}

@@ -6,7 +6,7 @@ import threading
 
 import pytest
 from indexctl import standings
-from indexctl.ends import REFUSED, UNREACHED, WRONG, Stop
+from indexctl.ends import REFUSED, UNREACHED, Stop
 from support.indexctl.rows import CASE, FakeIndex, reply
 from support.planted import catches
 
@@ -76,9 +76,8 @@ def test_what_is_no_standing_is_no_answer(status, value):
     assert end.value.status == UNREACHED
 
 
-@pytest.mark.parametrize("name", ["NoProject", "NoIndexName"])
-def test_a_page_that_is_not_there_is_none(name):
-    assert standings.find_page(FakeIndex(as_reply(404, {"name": name})), "/simple/", "projects", "name") is None
+def test_a_page_that_is_not_there_is_none():
+    assert standings.find_page(FakeIndex(as_reply(404, {"name": "NoProject"})), "/simple/", "projects", "name") is None
 
 
 @pytest.mark.parametrize("status, value", [
@@ -156,10 +155,10 @@ def test_a_name_that_is_given_up_meanwhile_is_left_out():
     assert dict(index.asked[0].headers) == {"Accept": standings.JSON_PAGE}
 
 
-def test_several_indexes_behind_one_address_have_no_list():
-    with pytest.raises(Stop, match="leads to several indexes") as end:
-        standings.held_names(FakeIndex(as_reply(404, {"name": "NoIndexName"})))
-    assert end.value.status == WRONG
+def test_an_address_without_a_list_of_names_is_no_index():
+    with pytest.raises(Stop, match="/simple/ is not there, and each index has it") as end:
+        standings.held_names(FakeIndex(as_reply(404, {"name": "NoProject"})))
+    assert end.value.status == UNREACHED
 
 
 def test_no_more_than_eight_are_asked_at_once(monkeypatch):

@@ -52,8 +52,6 @@ HINTS: dict[str, str] = {
     "BodyTooLarge": "The index or what stands in front of it takes no file of this size. Split it, or serve it from "
                     "elsewhere.",
     "NoRoute": "The address is not that of an index, or has a path.",
-    "NoIndexName": "The address leads to several indexes, none of which has this name. Each has users of its own, and "
-                   "is asked for them at its own address.",
     "Store": "The index could not write to its disk. Tell the office.",
 }
 
