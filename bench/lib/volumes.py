@@ -5,6 +5,7 @@ import os
 import random
 import shutil
 import sqlite3
+import statistics
 import struct
 import subprocess
 import tempfile
@@ -12,14 +13,19 @@ import time
 from contextlib import closing
 from typing import NamedTuple
 
-from lib.figures import goal, line, load
-from lib.on_disk import MEBIBYTE, file_name
+from lib.figures import goal, line, load, memory_of, processor_time
+from lib.on_disk import MEBIBYTE, file_name, milliseconds
 from support.places import BIN
 from support.serving import OFFICE, Index, accepted, make_index, sha256
 
 MOVED, KEPT, DAY, LARGE, UPLOADS = 5 * 10**9, 8 * 10**9, 10**8, 16 * MEBIBYTE, 10
 # seconds for each way of a move, how often what is new may be written, and of the time of cp
 MOST_SECONDS, MOST_WRITTEN, MOST_OF_COPY = 180, 1.1, 1.25
+# of a start: seconds of a processor, MiB, and how often what one of as many small files takes
+MOST_OF_START, MOST_MEMORY, MOST_OF_SMALL, STARTS = 1, 64, 1.1, 5
+NEAR, FAR = 10**9, 10**12
+# side by side
+REQUESTS, ROUNDS = 50, 5
 
 
 class Cost(NamedTuple):
@@ -45,13 +51,14 @@ def cost(*words, **setting):
     return Cost(time.monotonic() - begun, processor, written() - before)
 
 
-def bodies(size):
-    """Files of 1 to 16 MiB, of so many bytes together."""
-    chance, left = random.Random(1), size
+def bodies(size, part=1):
+    """Files of 1 to 16 MiB, of so many bytes together, or of each such a part alone; the last one is of 16 MiB."""
+    chance, left = random.Random(1), size - LARGE
     while left > 0:
         made = min(left, chance.randint(MEBIBYTE, LARGE))
         left -= made
-        yield os.urandom(made)
+        yield os.urandom(made // part)
+    yield os.urandom(LARGE)
 
 
 def place(volume, body):
@@ -59,15 +66,15 @@ def place(volume, body):
     return struct.pack(">QQ", volume.tell() - len(body), len(body))
 
 
-def fill(path, size):
-    """Adds a project `big` with files of so many bytes to an index, in its volume if it has one."""
+def fill(path, size, part=1):
+    """Adds a project `big` with such files to an index, in its volume if it has one."""
     has_volume = os.path.exists(f"{path}-volume")
     bytes_of_files = f"{path}-volume" if has_volume else os.devnull
     with closing(sqlite3.connect(path, isolation_level=None)) as database, open(bytes_of_files, "ab") as volume:
         database.execute("PRAGMA synchronous = OFF")
         database.execute("INSERT INTO names VALUES ('big', 1, 'big', ?, 0, 0, 1)", (1 << 40,))
         database.execute("INSERT INTO owners VALUES ('big', 'office')")
-        for number, body in enumerate(bodies(size)):
+        for number, body in enumerate(bodies(size, part)):
             row = file_name("big", number), "big", f"1.{number}", bytes.fromhex(sha256(body)), len(body), "", 1
             database.execute("INSERT INTO files VALUES (?, ?, ?, ?, ?, ?, ?)", row)
             database.execute("INSERT INTO blobs VALUES (?, ?)", (row[0], place(volume, body) if has_volume else body))
@@ -106,12 +113,50 @@ def upload(index, size, begin):
     return len(made)
 
 
-def make_pair(program, folder, size):
+def make_pair(program, folder, size, part=1):
     os.mkdir(folder)
     words = [program, "init", "--db", f"{folder}/index.db", *OFFICE, "--volume"]
     if subprocess.run(words, stdout=subprocess.DEVNULL).returncode:
         raise SystemExit("bench: the program makes no index with a volume")
-    return fill(f"{folder}/index.db", size)
+    return fill(f"{folder}/index.db", size, part)
+
+
+def move_last(path, begin):
+    """Moves the bytes of the file that ends last behind a hole of the volume."""
+    with closing(sqlite3.connect(path)) as database, open(f"{path}-volume", "r+b") as volume:
+        file, last = database.execute("SELECT file, max(body) FROM blobs").fetchone()
+        at, size = struct.unpack(">QQ", last)
+        volume.seek(at)
+        body = volume.read(size)
+        volume.seek(begin)
+        database.execute("UPDATE blobs SET body = ? WHERE file = ?", (place(volume, body), file))
+        database.commit()
+    forget(path)
+
+
+def start_cost(program, path):
+    """The least seconds of a processor that a start takes, and the most MiB of memory."""
+    seconds, most = [], []
+    for _ in range(STARTS):
+        with Index(program, path=path, patience=600) as index:
+            seconds.append(processor_time(index.process))
+            most.append(memory_of(index.process, "VmHWM") / 1024)
+    return min(seconds), max(most)
+
+
+def bench_far(program, size=KEPT):
+    """Starts of an index of large files, of the same with the last one far behind the others, and of small ones."""
+    with tempfile.TemporaryDirectory() as folder:
+        small, _ = start_cost(program, make_pair(program, f"{folder}/small", size, size // NEAR))
+        path = make_pair(program, f"{folder}/var", size)
+        for what, begin in ((f"{size / 1e9:.0f} GB", 0), ("the last file at 1 TB", FAR)):
+            if begin:
+                move_last(path, begin)
+            took, most = start_cost(program, path)
+            line("far" if not begin else "", f"{what}: a start takes {took:.3f} s of a processor",
+                 goal(round(took, 3), most=MOST_OF_START), f"{most:.0f} MiB", goal(round(most), most=MOST_MEMORY),
+                 f"of as many files of an eighth {small:.3f} s, ratio {took / small:.2f}",
+                 goal(round(took / small, 2), most=MOST_OF_SMALL), load())
 
 
 def backup(program, path, folder):
@@ -155,6 +200,42 @@ def put_back(program, folder, copy):
          + " and ".join(f"{it.seconds:.1f} s, {it.processor:.1f} of processors" for it in taken["cp"]),
          f"ratio {restored.seconds / copied:.2f}",
          goal(round(restored.seconds / copied, 2), most=MOST_OF_COPY), load())
+
+
+def took(index, ask, numbers):
+    """The milliseconds of a processor of an index for each of these requests, and the median by the clock."""
+    before, waits = processor_time(index.process), [milliseconds(lambda: ask(it)) for it in numbers]
+    return 1000 * (processor_time(index.process) - before) / len(waits), statistics.median(waits)
+
+
+def costs_of(program, folder, *words):
+    """What uploads of 100 bytes and of 1 MiB cost, and files of 1 MiB that nobody asked for before."""
+    path = f"{folder}/index.db"
+    os.mkdir(folder)
+    subprocess.run([program, "init", "--db", path, *OFFICE, *words], stdout=subprocess.DEVNULL, check=True)
+    small, large = [os.urandom(100) for _ in range(REQUESTS)], [os.urandom(MEBIBYTE) for _ in range(REQUESTS)]
+    with Index(program, path=path) as index:
+        accepted(index.claim("big"))
+        costs = [took(index, lambda at, made=made: index.upload("big", file_name("big", at), made[at % REQUESTS]),
+                      range(first, first + REQUESTS)) for first, made in ((0, small), (REQUESTS, large))]
+    forget(path)
+    with Index(program, path=path) as index:
+        costs.append(took(index, lambda at: index.ask("GET", f"/files/big/{file_name('big', at)}"),
+                          range(REQUESTS, 2 * REQUESTS)))
+    return costs
+
+
+def bench_beside(program):
+    """The same requests to an index in one file and to one with a volume, in the median of rounds by turns."""
+    rounds = []
+    with tempfile.TemporaryDirectory() as folder:
+        for number in range(ROUNDS):
+            rounds.append([costs_of(program, f"{folder}/{number}{it}", *it) for it in ((), ("--volume",))])
+    for at, (what, most) in enumerate((("upload of 100 bytes", None), ("upload of 1 MiB", 1), ("file of 1 MiB", 1))):
+        one, two = (tuple(statistics.median(it[way][at][row] for it in rounds) for row in (0, 1)) for way in (0, 1))
+        line("" if at else "beside", f"{what}: {one[0]:.2f} ms of a processor in one file, {two[0]:.2f} in a volume",
+             *([goal(round(two[0] / one[0], 2), most=most)] if most else []),
+             f"{one[1]:.2f} and {two[1]:.2f} ms by the clock", load())
 
 
 def bench_written(program):
