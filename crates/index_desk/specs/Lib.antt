@@ -10,5 +10,6 @@ pub mod Invariants
 pub mod Crashes
 pub mod Takes
 pub mod OnPages
+pub mod Apart
 pub mod Checks
 pub mod Reports
