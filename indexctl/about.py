@@ -5,7 +5,7 @@ from typing import Tuple
 
 Pairs = Tuple[Tuple[str, str], ...]
 # that of the newest section of CHANGELOG.md
-VERSION = "0.4.0"
+VERSION = "0.5.0"
 ABOUT = """indexctl asks a Python package index for what its owners and its office need each day: tokens, users, names,
 owners, files, quotas and retention cases. It speaks HTTP alone, so it works from any machine that reaches the index.
 Only a user of the office may use the commands that are marked by (office)."""

@@ -81,7 +81,7 @@ def test_each_python_says_the_version_and_prints_the_manual_page(python, one_fil
     assert len(ended.stdout.splitlines()) > 300
 
 
-@catches("indexctl/about.py", 'VERSION = "0.4.0"', 'VERSION = "0.2.0"',
+@catches("indexctl/about.py", 'VERSION = "0.5.0"', 'VERSION = "0.2.0"',
          ("indexctl/command_line.py", 'version=f"indexctl {VERSION}")', 'version="indexctl 0.1")'),
          also=["test_each_python_says_the_version_and_prints_the_manual_page"])
 def test_the_version_is_that_of_the_newest_changes():

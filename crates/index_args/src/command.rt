@@ -10,7 +10,7 @@ use std::alloc::{AllocError, Global};
 
 /// What `--version` prints behind the program's name: the version, and the kit that proves and builds it, without the
 /// letter of the kit's revision, since a proof rests on the logic.
-const VERSION: &str = "0.4.0 (rattle-kit-13 logic dac8208d650f15bf)";
+const VERSION: &str = "0.5.0 (rattle-kit-13 logic dac8208d650f15bf)";
 
 /// The help of the option `--db`.
 const DATABASE: &str = "The file of the index, an SQLite database";
