@@ -37,11 +37,11 @@ use Rattle.index_http.proofs.FaultReplies.{first_of, no_fault_reply}
 -- ---- two replies
 
 -- two replies are the same, or one of them says that the store failed
-abbrev Agree : Reply → Reply → Type 0
+abbrev pub Agree : Reply → Reply → Type 0
 Agree reply other = (reply ≡ other) ⊎ ((reply ≡ store_reply) ⊎ (other ≡ store_reply))
 
 -- two texts are the same, or one of them reports a fault
-abbrev TextsAgree : Bytes → Bytes → Type 0
+abbrev pub TextsAgree : Bytes → Bytes → Type 0
 TextsAgree one other = (one ≡ other) ⊎ (IsFaultReply one ⊎ IsFaultReply other)
 
 one_page : (served : Served) (page : Bytes) (reply other : Reply) → ShowsPage served page reply → ShowsPage served page other
@@ -50,14 +50,14 @@ one_page served page reply other (inl is) (inl is') = inl (is ∙ sym is')
 one_page served page reply other (inr long) shows = inr (inl long.0)
 one_page served page reply other (inl is) (inr long) = inr (inr long.0)
 
-text_agrees : (to_head : Bool) (reply other : Reply) (one two : Bytes) → one ≡ reply_text to_head reply → two ≡ reply_text to_head other
+pub text_agrees : (to_head : Bool) (reply other : Reply) (one two : Bytes) → one ≡ reply_text to_head reply → two ≡ reply_text to_head other
     → Agree reply other → TextsAgree one two
 text_agrees to_head reply other one two is is' (inl same) = inl (is ∙ ap (reply_text to_head) same ∙ sym is')
 text_agrees to_head reply other one two is is' (inr (inl fault)) = inr (inl (to_head, false, Store, is ∙ ap (reply_text to_head) fault))
 text_agrees to_head reply other one two is is' (inr (inr fault)) = inr (inr (to_head, false, Store, is' ∙ ap (reply_text to_head) fault))
 
-one_rows : (name : Bytes) (chosen : Option Served) (rows : Option (List FileRow)) (reply other : Reply) → ShowsRows name chosen rows reply
-    → ShowsRows name chosen rows other → Agree reply other
+pub one_rows : (name : Bytes) (chosen : Option Served) (rows : Option (List FileRow)) (reply other : Reply)
+    → ShowsRows name chosen rows reply → ShowsRows name chosen rows other → Agree reply other
 one_rows name chosen None reply other is is' = inl (is ∙ sym is')
 one_rows name None (Some rows) reply other is is' = inl (is ∙ sym is')
 one_rows name (Some served) (Some rows) reply other shows shows' =

@@ -12,4 +12,5 @@ pub mod RestLemmas
 pub mod ChoiceLemmas
 pub mod FaultReplies
 pub mod HideLemmas
+mod ApartReplies
 mod Words

@@ -12,3 +12,4 @@ pub mod Shown
 pub mod PageShows
 pub mod Asks
 pub mod Hides
+pub mod Apart
