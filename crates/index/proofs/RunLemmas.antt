@@ -103,18 +103,18 @@ module _ {D : Type 0} {g : Ghosts D} where
     left = leaves_of last files worked.after copied worked.committed;
   }
 
-  -- an index that is found in what a crash leaves is in a database that the store allows
-  pub found_among : (last : FileStore D g) → OpensAgain last → (next : Image) → (store.state last).may_leave next → (T : Tables)
-      → (holds : Holds next T)
-      → ∥ over_files.recovers last holds.db.trees ∥₁
-  found_among last again next may T holds =
-      ∥∥₁_map (opens_again last again.0 again.1 next may) (λ it. subst (over_files.recovers last) (sym (holds.only.alone it.0 it.2)) it.1)
+  -- a database that is found in what a crash leaves is one that the store allows
+  pub found_among : (last : FileStore D g) → OpensAgain last → (next : Image) → (store.state last).may_leave next → (db : Database)
+      → HoldsOnly next db
+      → ∥ over_files.recovers last db.trees ∥₁
+  found_among last again next may db only =
+      ∥∥₁_map (opens_again last again.0 again.1 next may) (λ it. subst (over_files.recovers last) (sym (only.alone it.0 it.2)) it.1)
 
   found_next : (Are : Tables → Type 0) (last : Held (FileStore D g)) → OpensAgain last.store
       → CrashLeavesOnlyTables (file_state last).may_leave Are
       → (image : Image) → MayLeave last image → FindsOnly in_files image Are
   found_next Are last again left image may found holds =
-      ∥∥₁_map (found_among last.store again image may found holds)
+      ∥∥₁_map (found_among last.store again image may holds.db holds.only)
       (λ allowed. left holds.db.trees allowed found (tables_of_found holds.db found holds.found))
 
   -- work between an opening and a close that failed

@@ -4,7 +4,7 @@ use Rattle.index.proofs.Words.{inr, get, ∥∥₁_elim, FileStore, Database, ov
 use Rattle.index.proofs.Words.{LineCallsLeave, LinesEnd-choice, LeavingTables-choice, LineCallsLeave-choice, by_tables, CallsLeave, Answer}
 use Rattle.index.proofs.Words.{Accepted, Already, Refused, Call, Bytes, Tables, has_any_of, index_schema, IsCurrent, IsFound, AreCurrent}
 use Rattle.index.proofs.Words.{End, OpensAgain, CrashLeavesOnlyTables, HoldsCurrent, HoldsNone, AreAmong, Task, AnswerLines}
-use Rattle.index.proofs.Words.{AnswerConnections, WriteReport, CountWrong, TaskMayLeave}
+use Rattle.index.proofs.Words.{AnswerConnections, WriteReport, CountWrong, TaskMayLeave, over}
 use Rattle.std.proofs.Common.{◌||◌}
 use Rattle.std.specs.List.{AllZip}
 use Rattle.std.specs.FinMap.{insert, remove}
@@ -74,8 +74,8 @@ has_of_two schema other db some named sound sound' =
     has_any_first schema index_schema.tables refl (has_named schema schema.tables (first_name index_schema.tables) refl is.0 (is.1 ∙ named))
 
 -- files that hold nothing of an index hold none of these trees
-pub not_these : {image : Image} (none : HoldsNone image) (db : Trees) → none.db.trees ≡ db → AreCurrent 2 db → ⊥
-not_these none db same current =
+pub not_these : {image : Image} (number : ℕ) (none : HoldsNone image) (db : Trees) → none.db.trees ≡ db → AreCurrent number db → ⊥
+not_these number none db same current =
     false≢true (sym none.free ∙ has_of_two none.db.schema index_schema db refl refl
     (subst (λ trees. IsSound none.db.schema trees) same none.sound) current.index.sound)
 
@@ -176,6 +176,12 @@ toggled T (Some there) is = (
 pub not_left : (task : Task) (result : Result ℕ End) (T : Tables) → (T' : Tables) × (¬ TaskMayLeave task result T T')
 not_left task result T = let it = toggled T (get T.bans []) refl in (it.0, λ left. it.1 (left_keeps task result T it.0 left))
 
+-- with the bytes of a volume too
+pub not_left_over : (volume : List ℕ) (task : Task) (result : Result ℕ End) (T : Tables)
+    → (places : Tables) × (¬ TaskMayLeave task result T (over volume places))
+not_left_over volume task result T =
+    let it = toggled T (get T.bans []) refl in (it.0, λ left. it.1 (left_keeps task result T (over volume it.0) left))
+
 pub not_same : (T : Tables) → (T' : Tables) × (¬ (T' ≡ T))
 not_same T = let it = toggled T (get T.bans []) refl in (it.0, λ same. it.1 (ap (λ (T : Tables). get T.bans []) same))
 
@@ -186,4 +192,4 @@ module _ {D : Type 0} {g : Ghosts D} where
       → ((T : Tables) × (¬ Are T))
       → (image : Image) → (store.state last).may_leave image → ¬ HoldsNone image
   there_by Are last again left other image may none = ∥∥₁_elim (opens_again last again.0 again.1 image may) no_proof (λ it.
-      other.1 (left it.0 it.1 other.0 (λ current. absurd (not_these none it.0 (none.only.alone it.0 it.2) current))))
+      other.1 (left it.0 it.1 other.0 (λ current. absurd (not_these 2 none it.0 (none.only.alone it.0 it.2) current))))

@@ -1,16 +1,18 @@
 -- Work over a database and its volume leads from the pair that it found to the next one.
-use Rattle.index.proofs.Words.{◌≡◌, ◌∙◌, ap, inl, inr, false, refl, subst, sym, ℕ, List, Result, Ok, Err, IfOk, IsTrue, None, Some, length}
+use Rattle.index.proofs.Words.{◌≡◌, ◌∙◌, ap, inl, inr, false, refl, subst, sym, ℕ, List, Result, Ok, Err, IfErr, IfOk, IsTrue, None, Some}
+use Rattle.index.proofs.Words.{length, ∥∥₁_elim, ∥∥₁_map, HasCleanDisk, IsClean, IsClosed, CutRun, IsLeftPair, opens_again}
 use Rattle.index.proofs.Words.{IsCopied, FileStore, Database, file_state, over_files, Held, Image, AreClean, Ghosts, Files, OpenFault}
 use Rattle.index.proofs.Words.{first_tables, Bytes, Tables, has_any_of, tables_of, index_schema, BooksState, IsHonest, IsWorking}
 use Rattle.index.proofs.Words.{IsCommitted, AreNew, TakesPlaced, Fits, over, Unclosed, End, CreatedRun, EndedRun, LeadsOn, HoldsPlaced}
 use Rattle.index.proofs.Words.{HoldsPlacedAlone, IsNextPair, IsNextOf, Pair, in_volume, HoldsOnly, IsOpenedOn, IsWhyUnfound, placed_side}
-use Rattle.index.proofs.Words.{Task}
+use Rattle.index.proofs.Words.{Task, TaskMayLeave, HasOneBearer, OpensAgain}
 use Rattle.sqlite.specs.Effect.{IsDatabase}
 use Rattle.index_sql_schema.proofs.BearerLemmas.{one_bearer}
-use Rattle.index_volume_books.specs.Through.{both_tables}
+use Rattle.index_volume_books.specs.Through.{BothClean, both_tables, left_of}
 use Rattle.index.specs.InVolume.{AllClean}
 use Rattle.index.specs.Pairs.{EndsOver, HasDatabaseOf, IsDatabaseOf, LeavesToNext, TookAndRan}
-use Rattle.index.proofs.RunLemmas.{only_of, working_of}
+use Rattle.index.proofs.RunLemmas.{clean_before, found_among, only_of, working_of}
+use Rattle.index.proofs.ThereLemmas.{no_proof, not_left_over, not_these}
 use Rattle.index.proofs.VolumeLemmas.{image_to_next, left_to_next, no_places}
 
 -- ---- the database that was found
@@ -89,9 +91,73 @@ module _ {D E : Type 0} {g : Ghosts D} (e : Ghosts E) (task : Task) (start : Pai
   closed_ended disk same it (Ok files) copied = λ clean. ended disk same it files (copied clean.0) clean
   closed_ended disk same it (Err unclosed) copied = tt
 
+  -- ---- work that was cut short
+
+  -- a connection whose version was read works, as far as its disk is clean
+  begun : HasCleanDisk (file_state books.conn) → IsWorking (file_state conn)
+  begun clean = record { clean = takes.opened.was_clean clean; is_open = takes.was_open clean }
+
+  cut : {result : Result ℕ End} (disk : E) → e.seen disk ≡ start.volume → (it : TookAndRan e task books.conn disk result)
+      → HasCleanDisk (file_state it.ran.last) → IsTrue (e.is_clean it.ran.last_disk)
+      → (next : Pair) → IsLeftPair e it.ran.last it.ran.last_disk next
+      → LeadsOn in_volume (CutRun task it.ran.early) start next
+  cut disk same it clean whole next may = record {
+    before = both_tables (placed_side over_files e it.first it.first_disk);
+    held = held disk same it honest was.1;
+    told = it.ran.worked.told (honest, was.1) (clean, whole) one;
+    left = λ found holds. ∥∥₁_map (found_among it.ran.last.store again next.image may.image holds.db holds.only) (λ allowed.
+        left found (
+          whole,
+          holds.places,
+          next.volume,
+          (clean, (holds.db.trees, allowed, λ current. holds.current.tables)),
+          may.volume,
+          holds.within.whole,
+        ));
+    there = λ none. ∥∥₁_elim (opens_again it.ran.last.store again.0 again.1 next.image may.image) no_proof (λ db.
+        other.1 (left (over next.volume other.0) (
+          whole,
+          other.0,
+          next.volume,
+          (clean, (db.0, db.1, λ current. absurd (not_these 3 none db.0 (none.only.alone db.0 db.2) current))),
+          may.volume,
+          refl,
+        )));
+  }
+    where
+      was : BothClean (placed_side over_files e it.first it.first_disk)
+      was = it.ran.worked.clean (clean, whole)
+
+      honest : IsHonest 3 (file_state it.first)
+      honest = let books_clean = it.taken.settled.clean was.0 in it.taken.lasts (takes.opened.lasts (begun books_clean) books_clean) was.0
+
+      one : HasOneBearer (both_tables (placed_side over_files e it.first it.first_disk))
+      one = one_bearer (file_state it.first).now honest.index
+
+      again : OpensAgain it.ran.last.store
+      again = it.ran.again clean
+
+      left : (T : Tables) → left_of (placed_side over_files e it.ran.last it.ran.last_disk) T
+          → TaskMayLeave task it.ran.early (both_tables (placed_side over_files e it.first it.first_disk)) T
+      left = it.ran.worked.crash (honest, was.1) (clean, whole) one
+
+      other : (places : Tables)
+          × (¬ TaskMayLeave task it.ran.early (both_tables (placed_side over_files e it.first it.first_disk)) (over next.volume places))
+      other = not_left_over next.volume task it.ran.early (both_tables (placed_side over_files e it.first it.first_disk))
+
+  closed_cut : {result : Result ℕ End} (disk : E) → e.seen disk ≡ start.volume → (it : TookAndRan e task books.conn disk result)
+      → (closed : Result (Files D) (Unclosed D g)) → IfErr closed (λ left. IsClosed it.ran.last left.store)
+      → IfErr closed (λ left. IsClean (over_files.view left.store) → IsTrue (e.is_clean it.ran.last_disk)
+      → (next : Pair) → IsLeftPair e it.ran.last it.ran.last_disk next → LeadsOn in_volume (CutRun task it.ran.early) start next)
+  closed_cut disk same it (Ok files) kept = tt
+  closed_cut disk same it (Err left) kept = λ clean. cut disk same it (clean_before it.ran.last left.store kept clean)
+
   pub leaves_to_next : {result : Result ℕ End} (over : EndsOver e task books.conn start.volume result) → LeavesToNext e task start over
   leaves_to_next (inl without) = tt
-  leaves_to_next (inr it) = closed_ended it.0 it.1 it.2 it.2.ran.closed it.2.ran.copied
+  leaves_to_next (inr it) = record {
+    ended = closed_ended it.0 it.1 it.2 it.2.ran.closed it.2.ran.copied;
+    cut = closed_cut it.0 it.1 it.2 it.2.ran.closed it.2.ran.kept;
+  }
 
 -- ---- a new index
 

@@ -5,7 +5,7 @@ pub use Rattle.index.specs.Chains.{Carries, ComesByRun, ComesByRuns, CreatedRun,
 pub use Rattle.index.specs.Chains.{MayBecome, MayCarry, Run, UnusedRun}
 pub use Rattle.index.specs.Ends.{closing_of, end_by, end_of, end_of_error, end_of_fault, end_of_report, end_of_serving, is_fault_end}
 pub use Rattle.index.specs.Ends.{is_store}
-pub use Rattle.index.specs.InVolume.{HoldsPlaced, HoldsPlacedAlone, IsNextOf, IsNextPair, Pair, in_volume}
+pub use Rattle.index.specs.InVolume.{HoldsPlaced, HoldsPlacedAlone, IsLeftPair, IsNextOf, IsNextPair, Pair, in_volume}
 pub use Rattle.index.specs.Jobs.{ComesOfInit, ComesOfRun, IsStatusOf, JobEnds, JobEndsBy}
 pub use Rattle.index.specs.Keeping.{FindsAgain, FindsOnly, Keeping}
 pub use Rattle.index.specs.Openings.{AreAsFound, CleanShutLeaves, HoldsOnly, HoldsSome, IsBadFirstUserByHex, IsCleanClosed, IsOpenedOn}

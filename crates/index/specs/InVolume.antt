@@ -3,13 +3,16 @@ use Rattle.std.specs.Prelude.{◌≡◌, ◌⊎◌, ℕ, List, IsTrue, length}
 use Rattle.sqlite.specs.Closing.{HoldsAlone}
 use Rattle.sqlite.specs.Effect.{Database}
 use Rattle.sqlite.specs.Files.{image_of}
+use Rattle.sqlite.specs.Held.{Held}
 use Rattle.sqlite.specs.Recovery.{Image}
 use Rattle.sqlite.specs.WalFiles.{outcomes}
 use Rattle.sqlite.specs.WalReads.{AreClean}
+use Rattle.sqlite.specs.declared.FileStore.{FileStore}
 use Rattle.sqlite_disk.specs.declared.Disk.{Ghosts}
 use Rattle.sqlite_disk.specs.declared.Files.{Files}
 use Rattle.index_rules.specs.Tables.{Tables}
 use Rattle.index_tables.specs.Adopted.{IsCurrent}
+use Rattle.index_tables.specs.Reopened.{MayLeave}
 use Rattle.index_volume_books.specs.Over.{Fits, over}
 use Rattle.index.specs.Keeping.{Keeping}
 use Rattle.index.specs.Openings.{HoldsOnly}
@@ -53,7 +56,7 @@ in_volume = record {
   HoldsNone = λ pair. HoldsNone pair.image;
 }
 
--- ---- closed files and a volume
+-- ---- the next files and volume
 
 -- none of the three files has lied
 abbrev pub AllClean : {D E : Type 0} → Ghosts D → Ghosts E → Files D → E → Type 0
@@ -68,3 +71,10 @@ pub record IsNextPair {D E : Type 0} (g : Ghosts D) (e : Ghosts E) (files : File
     (next : Pair) : Type 0 where
   pub image : IsNextOf g files next.image
   pub volume : (next.volume ≡ e.seen disk) ⊎ e.may_leave disk next.volume
+
+-- The files of the database were not closed. The next run finds what a crash leaves of them, and of
+-- the volume.
+pub record IsLeftPair {D E : Type 0} {g : Ghosts D} (e : Ghosts E) (last : Held (FileStore D g))
+    (disk : E) (next : Pair) : Type 0 where
+  pub image : MayLeave last next.image
+  pub volume : e.may_leave disk next.volume

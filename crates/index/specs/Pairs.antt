@@ -1,6 +1,5 @@
 -- A run over a database of version 3 and its volume: what is known of its calls, of a crash in
--- them, and of what the next run finds if it ended. What that finds of one that was cut short is
--- not said yet.
+-- them, and of what the next run finds if work was done.
 use Rattle.std.specs.Prelude.{◌≡◌, ◌⊎◌, ◌↔◌, Bool, ℕ, List, Option, Some, None, Result, Ok, Err}
 use Rattle.std.specs.Prelude.{IfErr, IfOk, IsErrAnd, IsOk, IsTrue, false, true}
 use Rattle.std.proofs.Common.{inl, inr}
@@ -13,6 +12,7 @@ use Rattle.sqlite.specs.Held.{Held, state}
 use Rattle.sqlite.specs.Recovery.{Image}
 use Rattle.sqlite.specs.State.{HasCleanDisk}
 use Rattle.sqlite.specs.WalReads.{AreClean}
+use Rattle.sqlite_trees.specs.View.{IsClean}
 use Rattle.sqlite_trees.specs.declared.store.Store as store
 use Rattle.sqlite_disk.specs.declared.Disk.{Ghosts}
 use Rattle.sqlite_disk.specs.declared.Files.{Files}
@@ -42,12 +42,14 @@ use Rattle.index.specs.declared.database.Unclosed.{Unclosed}
 use Rattle.index.specs.declared.failed_opening.FailedOpening.{FailedOpening}
 use Rattle.index.specs.declared.end.End.{End}
 use Rattle.index.specs.declared.end.End.TheVariants as end
-use Rattle.index.specs.Chains.{CreatedRun, EndedRun, LeadsOn}
+use Rattle.index.specs.Chains.{CreatedRun, CutRun, EndedRun, LeadsOn}
 use Rattle.index.specs.Ends.{closing_of, end_by, is_fault_end, is_store}
-use Rattle.index.specs.InVolume.{AllClean, IsNextPair, IsNextOf, Pair, in_volume, pair_of}
+use Rattle.index.specs.InVolume.{AllClean, IsLeftPair, IsNextPair, IsNextOf, Pair, in_volume}
+use Rattle.index.specs.InVolume.{pair_of}
 use Rattle.index.specs.Jobs.{ComesOfInit, ComesOfRun, Coming, JobEnds, JobEndsBy, ProgramEndsBy}
 use Rattle.index.specs.Openings.{HasSumsAs, HoldsOnly, IsBadFirstUserByHex, IsOpenedOn, IsToldOf}
-use Rattle.index.specs.Openings.{IsUnfound, IsWhyUnfound, IsWhyUnused, OpeningEnds, UnusedLeaves}
+use Rattle.index.specs.Openings.{IsUnfound, IsWhyUnfound, IsWhyUnused, OpeningEnds, OpensAgain}
+use Rattle.index.specs.Openings.{UnusedLeaves}
 use Rattle.index.specs.SecondLines.{volume_of_job}
 use Rattle.index.specs.Tasks.{Does, TaskMayLeave, Task, TaskTells}
 
@@ -124,6 +126,7 @@ pub record RanOver {D E : Type 0} {g : Ghosts D} (e : Ghosts E) (task : Task)
   pub kept : IfErr closed (λ it. IsClosed last it.store)
   -- a connection that works is to an index, all of which is committed
   pub honest : IsWorking (file_state last) → IsHonest 3 (file_state last)
+  pub again : HasCleanDisk (file_state last) → OpensAgain last.store
   pub told : IsToldOver (end_by early (closing_of closed)) result
 
 -- the tables on a connection and a volume were taken together, and work was done over both
@@ -148,15 +151,25 @@ EndsOver {E = E} e task books volume result =
     IsWithoutVolume result
     ⊎ ((disk : E) × (e.seen disk ≡ volume) × TookAndRan e task books disk result)
 
--- The next run finds what work left, if it was done and the files were closed.
+-- Work on an index leads to the next run: with its result if the files were closed, else with what
+-- it may leave when it is cut short.
+pub record RanLeadsOn {D E : Type 0} {g : Ghosts D} (e : Ghosts E) (task : Task) (start : Pair)
+    {first : Held (FileStore D g)} {first_disk : E} {result : Result ℕ End}
+    (ran : RanOver e task first first_disk result) : Type 0 where
+  pub ended : IfOk ran.closed (λ files. AllClean g e files ran.last_disk
+      → (next : Pair) → IsNextPair g e files ran.last_disk next
+      → LeadsOn in_volume (EndedRun task ran.early) start next)
+  pub cut : IfErr ran.closed (λ it. IsClean (over_files.view it.store)
+      → IsTrue (e.is_clean ran.last_disk)
+      → (next : Pair) → IsLeftPair e ran.last ran.last_disk next
+      → LeadsOn in_volume (CutRun task ran.early) start next)
+
+-- The next run finds what work left, if it was done.
 abbrev pub LeavesToNext : {D E : Type 0} {g : Ghosts D} (e : Ghosts E) (task : Task) (start : Pair)
     {books : Held (FileStore D g)} {result : Result ℕ End}
     → EndsOver e task books start.volume result → Type 0
 LeavesToNext e task start (inl without) = Unit {0}
-LeavesToNext {g = g} e task start (inr it) = let ran = it.2.ran in
-    IfOk ran.closed (λ files. AllClean g e files ran.last_disk
-    → (next : Pair) → IsNextPair g e files ran.last_disk next
-    → LeadsOn in_volume (EndedRun task ran.early) start next)
+LeavesToNext e task start (inr it) = RanLeadsOn e task start it.2.ran
 
 -- the same, if an index of version 3 was found
 abbrev pub FoundLeavesToNext : {D E : Type 0} {g : Ghosts D} (e : Ghosts E) (task : Task)

@@ -255,7 +255,7 @@ fn work_and_close<D: Disk + Drop, W: Work>(
 }
 
 /// Returns the connection unchanged, for the proof: what a crash leaves of it can be opened again.
-fn worked_on<S: Alter>(conn: Connection<S>) -> Connection<S>
+pub fn worked_on<S: Alter>(conn: Connection<S>) -> Connection<S>
     ensures same { result ≡ conn }
     ensures numbered { HasCleanDisk (state S.Store result)
         → IsTrue (S.Store.view result.store).is_numbered }

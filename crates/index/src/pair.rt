@@ -10,7 +10,9 @@ ghost use Rattle.index.specs.Jobs.{ComesOfRun};
 ghost use Rattle.index.specs.Pairs.{AreKept, ComesOfGiven, ComesOfOther, EndsOnPlaced, EndsOver};
 ghost use Rattle.index.specs.Pairs.{EndsOverDisk, IsToldOver, RanOver, WorksOver, placed_side};
 
-use crate::database::{self, Finished, Left, Unused, Work, close, end_of_unused, let_go};
+use crate::database::{
+    self, Finished, Left, Unused, Work, close, end_of_unused, let_go, worked_on,
+};
 use crate::end::End;
 use crate::failed_opening::FailedOpening;
 use crate::job::ended_by;
@@ -194,7 +196,7 @@ fn run_and_close<D: Disk + Drop, E: Disk + Drop, W: Work>(
     ensures { RanOver E.Disk (W.task work.old work.new) books.books.conn books.disk result }
 {
     let (conn, disk, end) = run_over(rt, books, work);
-    let ended = ended_by(end, let_go(close(conn)));
+    let ended = ended_by(end, let_go(close(worked_on(conn))));
     let told = with_cause_of(rt, ended, path, &disk);
     drop(disk);
     told

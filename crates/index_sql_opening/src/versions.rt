@@ -1,5 +1,5 @@
 //! The version in the table `meta`.
-ghost use Rattle.std.specs.Prelude.{◌≡◌, true, false, is_ok, IsTrue, IfErr, IfOk};
+ghost use Rattle.std.specs.Prelude.{◌≡◌, true, false, is_ok, IsTrue, IfErr, IfOk, OnOk};
 ghost use Rattle.sqlite.specs.Held.{state};
 ghost use Rattle.sqlite.specs.State.{HasCleanDisk};
 ghost use Rattle.sqlite_value.specs.Order.{column};
@@ -27,6 +27,9 @@ pub fn read_version<S: Alter>(conn: &mut Connection<S>) -> Result<Option<u64>, F
     requires { RestsAs S.Store (λ s. IsTrue s.is_open → IsAnyVersion s.now) conn.old }
     ensures found { HasCleanDisk (state S.Store conn.new)
         → IfOk result (λ version. version ≡ version_in (state S.Store conn.old).now.trees) }
+    // No version is read of a connection that a fault has shut.
+    ensures open { OnOk result (HasCleanDisk (state S.Store conn.new)
+        → IsTrue (state S.Store conn.old).is_open) }
     ensures looks { QueriesOnly S.Store conn.old conn.new (is_ok result) }
     ensures reason { IfErr result (FailsToReadVersion S.Store conn.old conn.new) }
 {

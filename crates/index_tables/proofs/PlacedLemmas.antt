@@ -1,8 +1,8 @@
--- An index of version 3 is refused only for a fault.
-use Rattle.index_tables.proofs.Words.{◌≡◌, ◌∙◌, ap, inl, inr, refl, sym, ℕ, Option, true, false, true≢false, same_name, Database, has_meta}
-use Rattle.index_tables.proofs.Words.{Ghosts, Held, state, OpenFault, begun, selects, IsIndex, version_in}
+-- An index of version 3 is refused only for a fault, and a look at it leaves nothing new to a crash.
+use Rattle.index_tables.proofs.Words.{◌≡◌, ◌∙◌, ap, inl, inr, refl, sym, ℕ, Bool, Option, true, false, true≢false, same_name, Database}
+use Rattle.index_tables.proofs.Words.{Ghosts, Held, state, OpenFault, QueriesOnly, has_meta, begun, selects, IsIndex, version_in}
 use Rattle.index_sql_opening.specs.Versions.{VersionQueryShows}
-use Rattle.index_tables.specs.Placed.{RefusesPlaced, placed_refusal}
+use Rattle.index_tables.specs.Placed.{LeavesNothingNew, RefusesPlaced, placed_refusal}
 
 -- an index has the table of the version
 index_tells : (db : Database) → IsIndex db → has_meta db.schema ≡ true
@@ -23,3 +23,9 @@ module _ {S : Type 0} (g : Ghosts S) (old new : Held S) (version : Option ℕ) (
   refused_shown tells o (index, told) =
       inr (is ∙ ap placed_refusal (tells.first ∙ selects (state g (begun old)) (state g tells.after) tells.rows (inl index) tells.shown
       ∙ told))
+
+-- a look leaves what a crash could leave before it
+pub looked_nothing_new : {S : Type 0} (g : Ghosts S) (old new : Held S) {did : Bool} → QueriesOnly g old new did
+    → LeavesNothingNew g old new
+looked_nothing_new g old new looks clean db may =
+    elim (looks.survives.crash clean db may) [ inl before ↦ before | inr none ↦ absurd none ]

@@ -6,6 +6,7 @@ use Rattle.sqlite_trees.specs.Tree.{Trees}
 use Rattle.sqlite_trees.specs.declared.store.Store.{Ghosts}
 use Rattle.sqlite.specs.Effect.{Database}
 use Rattle.sqlite.specs.Held.{Held, state}
+use Rattle.sqlite.specs.State.{HasCleanDisk}
 use Rattle.index_rules.specs.declared.open.OpenFault.{OpenFault}
 use Rattle.index_rules.specs.declared.open.OpenFault.TheVariants.{NotAnIndex, OtherVersion, Store}
 use Rattle.index_sql_schema.specs.Index.{IsIndex, meta_in, version_in}
@@ -37,11 +38,22 @@ placed_refusal (Some version) = if version == 3 then Store else OtherVersion
 abbrev pub IsMetaOf : Database → List Row → Type 0
 IsMetaOf was rows = rows ≡ meta_in was.trees
 
+-- a crash leaves what it could leave before, whether or not the connection is open
+abbrev pub LeavesNothingNew : {S : Type 0} → Ghosts S → Held S → Held S → Type 0
+LeavesNothingNew g old new =
+    HasCleanDisk (state g new) → (db : Trees) → (state g new).may_leave db
+    → (state g old).may_leave db
+
+-- on a clean disk, the connection was open when the index on it was opened
+abbrev pub WasOpen : {S : Type 0} → Ghosts S → Held S → BooksState S → Type 0
+WasOpen g old books = HasCleanDisk (state g books.conn) → IsTrue (state g old).is_open
+
 -- no index of version 3 was opened on a connection
 pub record IsNotPlaced {S : Type 0} (g : Ghosts S) (old : Held S) (refused : Unopened S)
     : Type 0 where
   pub why : RefusesFound refused.why
   pub left : IsUnopened g MakesNothing (RefusesPlaced g) old refused
+  pub nothing_new : LeavesNothingNew g old refused.conn
 
 -- the opening of an index of version 3: the books are the index as it is found, or it is not opened
 pub record TakesPlaced {S : Type 0} (g : Ghosts S) (old : Held S)
@@ -49,4 +61,5 @@ pub record TakesPlaced {S : Type 0} (g : Ghosts S) (old : Held S)
   pub found : IfOk result (HaveTables g (IsCurrent 3 (state g old).now))
   pub meta : IfOk result (HaveMeta g (IsMetaOf (state g old).now))
   pub opened : IfOk result (AreOpened 3 g MakesNothing old)
+  pub was_open : IfOk result (WasOpen g old)
   pub refused : IfErr result (IsNotPlaced g old)

@@ -1,10 +1,14 @@
 //! Opening the index in an existing database.
-ghost use Rattle.std.specs.Prelude.{◌≡◌, false, IfOk, IfErr, IfSome, IsTrue};
+ghost use Rattle.std.specs.Prelude.{◌≡◌, false, is_ok, IfOk, IfErr, IfSome, IsTrue};
 ghost use Rattle.sqlite.specs.Held.{state};
 ghost use Rattle.sqlite.specs.State.{HasCleanDisk};
 ghost use Rattle.index_sql_opening.specs.Making.{RestsAs};
 ghost use Rattle.index_sql_opening.specs.Migrated.{asks_of_migration};
 ghost use Rattle.index_sql_opening.specs.Names.{has_meta};
+ghost use Rattle.index_sql_opening.specs.Versions.{FailsToReadVersion};
+ghost use Rattle.index_sql_schema.specs.FirstVersion.{IsAnyVersion};
+ghost use Rattle.index_sql_schema.specs.Index.{version_in};
+ghost use Rattle.index_sql_schema.specs.Looks.{QueriesOnly};
 ghost use Rattle.index_tables.specs.Opened.{IsFault, IsRefusal, IsRefusedAs, IsUnopened};
 ghost use Rattle.index_tables.specs.Opened.{RefusesFound, StoreForRefusal};
 ghost use Rattle.index_tables.specs.Adopted.{Adopts, HasSchema, HasVersionOne, IsOfKind, IsOurs};
@@ -14,10 +18,10 @@ ghost use Rattle.index_tables.specs.Adopted.{foreign_tables_fault, refusal_by};
 use crate::books::SqlBooks;
 use crate::opening::{Unopened, open_fault_of};
 use crate::version::Version2;
-use index_rules::OpenFault;
+use index_rules::{Fault, OpenFault};
 use index_sql_opening::{
     expose_invariants, has_meta, has_table, has_version_1_tables, is_first_version, is_ours,
-    migrate, read_version, told_version,
+    migrate, told_version,
 };
 use index_sql_schema::{IndexConnection, fault_of};
 use sqlite::{Alter, Connection};
@@ -89,6 +93,18 @@ fn kind_of<S: Alter>(alloc: Global, conn: &Connection<S>) -> Result<Option<Kind>
     } else {
         Ok(None)
     }
+}
+
+/// The version in `meta`, of which `adopt_kind` needs no more than these clauses: with all those of the call its proof
+/// is not found.
+fn read_version<S: Alter>(conn: &mut Connection<S>) -> Result<Option<u64>, Fault>
+    requires { RestsAs S.Store (λ s. IsTrue s.is_open → IsAnyVersion s.now) conn.old }
+    ensures found { HasCleanDisk (state S.Store conn.new)
+        → IfOk result (λ version. version ≡ version_in (state S.Store conn.old).now.trees) }
+    ensures looks { QueriesOnly S.Store conn.old conn.new (is_ok result) }
+    ensures reason { IfErr result (FailsToReadVersion S.Store conn.old conn.new) }
+{
+    index_sql_opening::read_version(conn)
 }
 
 /// The index on a connection to one, or to a database of version 1, which becomes one.

@@ -23,6 +23,10 @@ pub returns-in-Ok-clause-looks : goal.returns-in-Ok-clause-looks
 returns-in-Ok-clause-looks g c = looks_shown g.S.Store c.args.conn.now c.query_all.new.self c.requires.is
     (c.query_all.ensures.mode c.requires.rest.outside) c.query_all.ensures.survives c.in-Ok.rows.items c.in-Ok.ensures.ok _
 
+pub returns-in-Ok-clause-open : goal.returns-in-Ok-clause-open
+returns-in-Ok-clause-open g c clean = (shown_open (state g.S.Store c.args.conn.now) (state g.S.Store c.query_all.new.self)
+    select_version_text [] c.in-Ok.rows.items (c.in-Ok.ensures.ok clean)).0
+
 pub returns-in-Ok-clause-found : goal.returns-in-Ok-clause-found
 returns-in-Ok-clause-found g c clean =
     let shown = c.in-Ok.ensures.ok clean in

@@ -1,7 +1,7 @@
 use Rattle.index_tables.proofs.Words.{rules, ◌≡◌, ap, inr, refl, true, Some, Database, state, HasCleanDisk, meta_in, version_in}
 use Rattle.index_tables.proofs.Words.{QueriesOnly, tables_in, MakesNothing}
 use Rattle.index_tables.proofs.OpenedLemmas.{looked_opened, looked_refused}
-use Rattle.index_tables.proofs.PlacedLemmas.{refused_by}
+use Rattle.index_tables.proofs.PlacedLemmas.{looked_nothing_new, refused_by}
 use Rattle.index_tables.proofs.placed.take_placed.Goals as goal
 
 pub returns-in-Ok-Some-eq3 : goal.returns-in-Ok-Some-eq3
@@ -19,6 +19,7 @@ returns-in-Ok-Some-eq3 g c =
       meta = λ working. ap (λ (d : Database). meta_in d.trees) (looks.now_is working.clean working.is_open);
       opened = looked_opened 3 g.S.Store MakesNothing old new looks c.requires.rest refl (g.met.S.Store.settled new.store)
           c.requires.is told;
+      was_open = c.in-Ok-Some-eq3.ensures.open;
       refused = tt;
     }
 
@@ -29,10 +30,12 @@ returns-in-Ok g c =
       found = tt;
       meta = tt;
       opened = tt;
+      was_open = tt;
       refused = record {
         why = c.refusal.ensures.why;
         left = looked_refused 3 g.S.Store MakesNothing c.args.conn new c.in-Ok.ensures.looks c.requires.rest c.refusal.result
             (λ clean. refused_by g.S.Store c.args.conn new c.in-Ok.version c.refusal.result (search rules) (c.in-Ok.ensures.found clean));
+        nothing_new = looked_nothing_new g.S.Store c.args.conn new c.in-Ok.ensures.looks;
       };
     }
 
@@ -42,9 +45,11 @@ returns-in-Err g c =
       found = tt;
       meta = tt;
       opened = tt;
+      was_open = tt;
       refused = record {
         why = inr (inr c.open_fault_of.ensures.fault);
         left = looked_refused 3 g.S.Store MakesNothing c.args.conn c.read_version.new.conn c.in-Err.ensures.looks c.requires.rest
             c.open_fault_of.result (λ clean o placed. c.open_fault_of.ensures.fault);
+        nothing_new = looked_nothing_new g.S.Store c.args.conn c.read_version.new.conn c.in-Err.ensures.looks;
       };
     }

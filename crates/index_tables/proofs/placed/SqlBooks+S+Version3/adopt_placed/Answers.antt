@@ -11,11 +11,13 @@ returns-then-not-has_meta g c =
       found = tt;
       meta = tt;
       opened = tt;
+      was_open = tt;
       refused = subst (λ held. IsNotPlaced g.S.Store held (record { why = NotAnIndex; conn = conn })) c.expose_invariants-conn.ensures.same
           (record {
             why = inl refl;
             left = refused_at_once g.S.Store conn NotAnIndex (search rules)
                 (λ _. refused_unlike g.S.Store conn conn NotAnIndex (search rules));
+            nothing_new = λ clean db may. may;
           });
     }
 
@@ -29,6 +31,7 @@ returns-in-Ok-false g c =
       found = tt;
       meta = tt;
       opened = tt;
+      was_open = tt;
       refused = subst (λ held. IsNotPlaced g.S.Store held c.refuse_unlike.result)
           c.expose_invariants-conn.ensures.same c.refuse_unlike.ensures;
     }
@@ -40,9 +43,11 @@ returns-in-Err g c =
       found = tt;
       meta = tt;
       opened = tt;
+      was_open = tt;
       refused = subst (λ held. IsNotPlaced g.S.Store held (record { why = OutOfMemory; conn = conn })) c.expose_invariants-conn.ensures.same
           (record {
             why = inr (inr (inl refl));
             left = refused_at_once g.S.Store conn OutOfMemory (search rules) (λ _ o placed. inl refl);
+            nothing_new = λ clean db may. may;
           });
     }
