@@ -77,8 +77,8 @@ RunEnds source sink result tells T = LinesEnd tells T
     (source.input.remaining source.old) (source.input.remaining source.new)
     (sink.out.contents sink.old) (sink.out.contents sink.new) result
 
--- a read failed or the most bytes were read, or a write failed or took no byte, exactly if the
--- result says so
+-- `ReadFault` comes only if a read failed or the most bytes were read, `WriteFault` only if a write
+-- failed or took no byte. Without it no read, or no write, failed.
 pub record RunFailsOnly {S K : Type 0} (most : ℕ) (source : SourceStep S) (sink : SinkStep K)
     (result : Result ℕ LineEnd) : Type 0 where
   pub read_fault : result ≡ Err ReadFault

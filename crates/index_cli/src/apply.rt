@@ -41,7 +41,7 @@ pub fn apply_lines<S: Source, K: Sink, B: Books>(
         (by_desk (at_desk B.Books desk.old desk.new)) (B.tables desk.new) }
 
     // Each fault of the store that a line reports has a call of the store that failed.
-    ensures store { (faults : ℕ) × HaveFailed faults (B.failures desk.old) (B.failures desk.new)
+    ensures failures { (faults : ℕ) × HaveFailed faults (B.failures desk.old) (B.failures desk.new)
         × RunEnds (from_source S.Source source.old source.new) (to_sink K.Sink sink.old sink.new)
         result (LinesReportFaults faults) (B.tables desk.new) }
 
@@ -50,7 +50,7 @@ pub fn apply_lines<S: Source, K: Sink, B: Books>(
         × RunEnds (from_source S.Source source.old source.new) (to_sink K.Sink sink.old sink.new)
         result (LinesReportFaults faults) (B.tables desk.new) }
 
-    // A fault is returned only for its cause, and nothing else failed.
+    // `ReadFault` and `WriteFault` come only for their causes, and nothing else failed.
     ensures fails { RunFailsOnly MOST_BYTES (from_source S.Source source.old source.new)
         (to_sink K.Sink sink.old sink.new) result }
 
@@ -58,7 +58,8 @@ pub fn apply_lines<S: Source, K: Sink, B: Books>(
     ensures limit { (left : ℕ)
         × Charges MOST_BYTES left (S.remaining source.old) (S.remaining source.new) }
 
-    // However it ends: at most one user still has each token's digest, and charges that add up still add up.
+    // However it ends, if no fault has shut the store: at most one user still has each token's digest, and charges that
+    // add up still add up.
     ensures keeps { KeepsInvariants B.Books desk.old desk.new }
 {
     let mut line = Vec::new(alloc);

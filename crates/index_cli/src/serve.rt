@@ -46,7 +46,8 @@ pub fn answer_connections<C: Connections, B: CachesAnswers>(
     ensures answers { DeskAnswersConnections (at_desk B.Books desk.old desk.new)
         (AreOn C.coming C.replies connections.old connections.new) at (IsCount requests result) }
 
-    // However it ends: at most one user still has each token's digest, and charges that add up still add up.
+    // However it ends, if no fault has shut the store: at most one user still has each token's digest, and charges that
+    // add up still add up.
     ensures keeps { KeepsInvariants B.Books desk.old desk.new }
 
     // It returns `ReadFault` only if the next connection could not be accepted, `Clock` only if no moment is given, and

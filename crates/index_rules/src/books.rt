@@ -49,7 +49,8 @@ pub trait Books {
         ensures looks { Looks (model tables IsHonest IsClean may_leave (counts failures stores))
             self.old self.new result };
 
-    /// Writes a change. If it fails, the tables are as they were; after a crash they may be so or have the change.
+    /// Writes a change. If it fails, the tables are as they were, unless a fault shut the store. After a crash, or if the
+    /// store was shut, they may be so or have the change.
     fn write(&mut self, alloc: Global, change: Change) -> Result<(), Fault>
         ensures { Writes (model tables IsHonest IsClean may_leave (counts failures stores))
             self.old self.new change result };

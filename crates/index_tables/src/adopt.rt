@@ -44,7 +44,7 @@ impl<S: Alter> SqlBooks<S, Version2> {
     ///
     /// # Errors
     ///
-    /// A refused database is as it was.
+    /// A refused database is as it was. If a fault has shut the connection, one of version 1 may be one of version 2.
     ///
     /// - `NotAnIndex`: there is no table `meta` with the columns of the version, it has no row with id 1 and kind
     ///   `python-index`, or a table of its version is missing by name.

@@ -45,8 +45,8 @@ pub returns-in_err-size-clause-limit : goal.returns-in_err-size-clause-limit
 returns-in_err-size-clause-limit g c =
     (c.next_line.new.left, Charges-trans _ _ _ _ _ _ c.loop-count.invariant.charged c.next_line.ensures.charged)
 
-pub returns-in_err-size-clause-store : goal.returns-in_err-size-clause-store
-returns-in_err-size-clause-store g c =
+pub returns-in_err-size-clause-failures : goal.returns-in_err-size-clause-failures
+returns-in_err-size-clause-failures g c =
     let is : c.from_residual.result ≡ Err c.in_err-size.field-0.0 = search rules in
     let other : c.from_residual.result ≢ Err WriteFault = search rules in
     let told = c.loop-count.invariant.faults in (
@@ -75,8 +75,8 @@ returns-in_default-clause-answers g c =
     lines_end g.B.Books _ _ _ (leaves_none _ _) _ _ _ _ _ _ (Ok _)
     (Progress-whole _ _ _ _ _ _ _ _ c.loop-count.invariant.answered end.0 end.1)
 
-pub returns-in_default-clause-store : goal.returns-in_default-clause-store
-returns-in_default-clause-store g c =
+pub returns-in_default-clause-failures : goal.returns-in_default-clause-failures
+returns-in_default-clause-failures g c =
     let end = rw c.in_default.is at c.in_ok-size.ensures.line in
     let told = c.loop-count.invariant.faults in
     (told.0, told.1, Progress-whole _ _ _ _ _ _ _ _ told.2 end.0 end.1)
@@ -97,8 +97,8 @@ returns-in_err-reply-clause-answers g c =
     (LinesEnd-before _ _ _ _ _ _ c.from_residual-in_err-reply.result c.in_err-reply.field-0.0 is other
     (Progress-taken _ _ _ _ _ _ _ _ c.in-Some.size _ c.loop-count.invariant.answered (rw c.in-Some.is at c.in_ok-size.ensures.line)))
 
-pub returns-in_err-reply-clause-store : goal.returns-in_err-reply-clause-store
-returns-in_err-reply-clause-store g c =
+pub returns-in_err-reply-clause-failures : goal.returns-in_err-reply-clause-failures
+returns-in_err-reply-clause-failures g c =
     let is : c.from_residual-in_err-reply.result ≡ Err c.in_err-reply.field-0.0 = search rules in
     let other : c.from_residual-in_err-reply.result ≢ Err WriteFault = search rules in
     let told = c.loop-count.invariant.faults in (
@@ -144,8 +144,8 @@ returns-in_default-write_line-clause-answers g c =
     _ _ _ c.loop-count.invariant.keeps c.reply_to.ensures.keeps reply lasts asks)
     front.0 front.1)
 
-pub returns-in_default-write_line-clause-store : goal.returns-in_default-write_line-clause-store
-returns-in_default-write_line-clause-store g c =
+pub returns-in_default-write_line-clause-failures : goal.returns-in_default-write_line-clause-failures
+returns-in_default-write_line-clause-failures g c =
     let front = c.in_default-write_line.ensures.front in
     let told = c.loop-count.invariant.faults in
     let causes = c.in_ok-reply.ensures.causes.told in (
@@ -232,8 +232,8 @@ returns-clause-answers g c =
     lines_end g.B.Books _ _ _ (leaves_none _ _) _ _ _ _ _ _ (Err ReadFault)
     (Progress-part _ _ _ _ _ _ _ _ c.loop-count.invariant.answered (PartIsTaken-none _))
 
-pub returns-clause-store : goal.returns-clause-store
-returns-clause-store g c =
+pub returns-clause-failures : goal.returns-clause-failures
+returns-clause-failures g c =
     let told = c.loop-count.invariant.faults in
     (told.0, told.1, Progress-part _ _ _ _ _ _ _ _ told.2 (PartIsTaken-none _))
 
