@@ -4,6 +4,7 @@ from types import SimpleNamespace
 
 import pytest
 from edits import Edit, changed_since, made_together, share_of
+from support.needed import want_command
 from support.planted import catches
 from support.running import new_repository, write_below
 
@@ -44,6 +45,7 @@ def test_a_share_has_every_fourth_crate_and_those_that_changed(turn):
 @catches("tools/lib/edits.py", "return names if ended.returncode else", "return")
 @catches("tools/lib/edits.py", "except OSError:\n        return names", "except OSError:\n        return ()")
 def test_the_crates_that_changed_are_told_and_all_where_git_can_not_tell(monkeypatch, tmp_path):
+    want_command("git", "git")
     first, second = new_repository(tmp_path, ["crates/a/x", "crates/b/x"])
     assert changed_since(str(tmp_path), first, "abc") == {"b"} and changed_since(str(tmp_path), second, "abc") == set()
     write_below(tmp_path, "crates/a/x", "changed, and in no commit")

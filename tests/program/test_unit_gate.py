@@ -15,6 +15,7 @@ import pytest
 from support.breaks import names_of
 from support.durations import name_of, write
 from support.inner_runs import copy_rooms, run_tests
+from support.needed import want_command, want_module
 from support.options import is_of_share
 from support.places import TOP
 from support.planted import catches
@@ -79,6 +80,7 @@ def test_without_git_all_counts_as_changed(monkeypatch, tmp_path, capfd):
 @catches("tests/run", "landings[-count]", "landings[-1]")
 @catches("tests/run", '!= ""\n', 'is None\n')
 def test_what_changed_counts_since_so_many_landings(monkeypatch, tmp_path):
+    want_command("git", "git")
     first, second, third = new_repository(tmp_path, CHANGES[:3])
     gate = gate_of(monkeypatch, tmp_path, [])
     assert not gate.has_changed("crates/b", [first, second], 2)
@@ -89,6 +91,7 @@ def test_what_changed_counts_since_so_many_landings(monkeypatch, tmp_path):
 @catches("tests/run", "if since > MOST_COMMITS:", "if False:", case="4-True")
 @pytest.mark.parametrize("count, is_told", [(3, False), (4, True)])
 def test_landings_without_a_line_are_told(monkeypatch, tmp_path, count, is_told):
+    want_command("git", "git")
     first, *_ = new_repository(tmp_path, CHANGES[:count])
     gate = gate_of(monkeypatch, tmp_path, [f"2026-11-30 {first}"])
     monkeypatch.setattr(gate, "MOST_COMMITS", 2)
@@ -298,6 +301,7 @@ def test_each_name_is_of_one_share_whatever_stands_beside_it():
 @catches("tests/conftest.py", 'it.name if hasattr(it, "callspec") else it.path.name', "it.name")
 def test_tests_of_a_file_that_share_what_takes_long_take_their_turn_together():
     """Those that are not: each by its parameters."""
+    want_module("jwt", "python3-jwt")
     turn, file = crc32(b"test_pipelines.py"), "tests/storage/test_pipelines.py"
     seen = run_tests(TOP, [file], "--collect-only", "--share", f"{turn}/10").said
     assert {*names_of(file)} <= {f"tests/{it}" for it in seen.splitlines()}

@@ -215,13 +215,17 @@ def test_a_path_under_a_file(placed, refuses):
 
 
 def test_a_volume_that_may_not_be_read(program, placed, looked):
-    want_command("setpriv", "util-linux")
-    for file in placed, f"{placed}-wal", f"{placed}-volume-wal":
-        os.chown(file, 65534, 65534)
-    os.chown(os.path.dirname(placed), 65534, 65534)
-    os.chmod(f"{placed}-volume", 0o600)
-    nobody = "setpriv", "--reuid=65534", "--regid=65534", "--clear-groups"
-    first, *words = *nobody, program, *words_of("check", placed)
+    words = [program, *words_of("check", placed)]
+    if os.getuid():
+        os.chmod(f"{placed}-volume", 0)
+    else:
+        want_command("setpriv", "util-linux")
+        for file in placed, f"{placed}-wal", f"{placed}-volume-wal":
+            os.chown(file, 65534, 65534)
+        os.chown(os.path.dirname(placed), 65534, 65534)
+        os.chmod(f"{placed}-volume", 0o600)
+        words[:0] = "setpriv", "--reuid=65534", "--regid=65534", "--clear-groups"
+    first, *words = words
     ended = end_of(first, *words)
     looked(ended == told("Store", f"{placed}-volume", "no right to read and write it"), ended)
 

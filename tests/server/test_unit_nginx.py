@@ -2,6 +2,7 @@
 from __future__ import annotations
 
 import os
+import shutil
 import signal
 import subprocess
 
@@ -19,7 +20,7 @@ from support.server.waits import wait_for
 # holds the only port, and says so, until nobody waits for it
 HOLDS = """import sys
 sys.path.insert(0, sys.argv[1])
-from support import ports
+import ports
 ports.LOCKS, ports.PORTS = sys.argv[2], range(20_000, 20_001)
 print(ports.free_port(), flush=True)
 sys.stdin.read()
@@ -34,7 +35,9 @@ def test_a_port_that_one_test_holds_no_other_gets_also_of_another_user(folder, m
     monkeypatch.setattr(ports, "PORTS", range(20_000, 20_001))
     monkeypatch.setattr(ports, "HELD", set())
     monkeypatch.setattr(ports, "FILE", [])
-    words = ["/usr/bin/python3", "-B", "-c", HOLDS, f"{TOP}/tests", ports.LOCKS]
+    # where the other user may read it
+    shutil.copy(f"{TOP}/tests/support/ports.py", folder)
+    words = ["/usr/bin/python3", "-B", "-c", HOLDS, folder, ports.LOCKS]
     other = {} if os.getuid() else {"user": 65534, "group": 65534, "extra_groups": []}
     for held_by in ({}, other):
         with subprocess.Popen(words, stdin=subprocess.PIPE, stdout=subprocess.PIPE, text=True, **held_by) as holds:
