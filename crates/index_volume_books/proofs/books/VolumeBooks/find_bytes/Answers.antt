@@ -1,4 +1,7 @@
-use Rattle.index_volume_books.proofs.Words.{◌≡◌, refl, sym, ap, ◌∙◌, Some, is_ok, option_map, rules, side_of}
+use Rattle.index_volume_books.proofs.Words.{◌≡◌, refl, sym, ap, subst, ◌∙◌, Some, is_ok, option_map, rules, side_of}
+use Rattle.std.specs.Prelude.{IfSome}
+use Rattle.index_digest.specs.Digest.{sha256}
+use Rattle.index_volume_books.specs.Last.{IsDigestOf}
 use Rattle.index_volume_books.proofs.ThroughLemmas.{finds_through, found_none, found_some}
 use Rattle.index_volume_books.proofs.books.VolumeBooks.find_bytes.Goals as goal
 
@@ -51,3 +54,9 @@ returns-clause-finds g c =
     (side_of g.B.Books g.D.Disk c.kept_of.new.self c.read_stored.new.disk)
     it.unchanged c.read_stored.ensures.same it.crash c.read_stored.ensures.crash it.call.honest it.call.clean c.read_stored.ensures.clean
     (λ both. tt) tt
+
+pub returns-in-Ok-clause-declared : goal.returns-in-Ok-clause-declared
+returns-in-Ok-clause-declared g c = λ honest known same.
+    ap sha256 c.in-Ok.ensures.kept ∙ c.in-Ok.ensures.matches.0 refl
+    ∙ subst (λ it. IfSome it (λ kept. IsDigestOf (g.B.Books.tables c.args.self.now.books) c.args.file.now kept.digest)) c.in-Some.is
+    (c.in_ok-kept_of.ensures.digest honest) known same
