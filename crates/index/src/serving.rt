@@ -177,6 +177,3 @@ fn tell_address(rt: &HostRuntime, listener: &TcpListener) -> io::Result<()> {
     let address = listener.local_addr()?;
     println!(rt; "listening on {address}")
 }
-
-#[cfg(test)]
-mod tests;
