@@ -1,15 +1,17 @@
 -- The clients of any runs are sent the same bytes for one file name.
 use Rattle.index.proofs.Words.{◌≡◌, ◌⊎◌, ℕ, suc, List, [], ◌∷◌, Some, Result, length, sym, subst, inl, inr, arith, Contains, ∥∥₁_elim}
-use Rattle.index.proofs.Words.{∥∥₁_map, sha256, History, IsFrontOf, IsLegal, Bytes, Tables, End, ClientGot, Carries, EndedRun, LeadTo}
-use Rattle.index.proofs.Words.{LeadsOn, Run, FindsAgain, Keeping, AnswerConnections, Task}
+use Rattle.index.proofs.Words.{∥∥₁_map, sha256, History, IsFrontOf, IsLegal, Bytes, Tables, End, ClientGot, TaskEnds, Done, WorkRun, LeadTo}
+use Rattle.index.proofs.Words.{LeadsOn, Run, FindsAgain, Keeping, AnswerConnections, Task, true, by_history}
 use Rattle.std.proofs.Common.{zero}
 use Rattle.std.specs.Coded.{Coded-set, coded_list, coded_ℕ}
 use Rattle.index_cli.specs.FilesServed.{IsServedAt}
 use Rattle.index_cli.proofs.FilesServed.{points_agree, sent_at_some_point, served_later}
 use Rattle.index.specs.Agree.{AgreeThrough}
-use Rattle.index.specs.Chains.{EndedRunLeadsOn}
+use Rattle.index.specs.Chains.{WorkRunLeadsOn}
+use Rattle.index.specs.Tasks.{IsDone}
 use Rattle.index.proofs.AlikeLemmas.{alike_got, all_alike, one_alike}
-use Rattle.index.proofs.ChainLemmas.{LegalFor, StandIn, carried, same_for, stand_by_run}
+use Rattle.index.proofs.ChainLemmas.{StandIn, stand_by_run}
+use Rattle.index.proofs.DoneLemmas.{LegalFor, same_for}
 use Rattle.index.proofs.GoesOnLemmas.{by_run, carried_on, there_by_run}
 
 -- bytes have one digest and one size
@@ -19,33 +21,34 @@ Agree first second = (sha256 first ≡ sha256 second) × (length first ≡ lengt
 -- ---- one run
 
 -- what a client of a run got is what the history after it has of the file at some point
-client_served : (task : Task) (result : Result ℕ End) (h h' : History) (T' : Tables) → IsLegal h' → Carries task result h h' T'
-    → (file bytes : Bytes) → ClientGot (EndedRun task result) file bytes
+client_served : (task : Task) (result : Result ℕ End) (T : Tables) (done : Done) → TaskEnds task T result done
+    → (h h' : History) → IsLegal h' → IsDone by_history done h h' → (file bytes : Bytes) → ClientGot (WorkRun true task result) file bytes
     → IsServedAt h' file bytes
-client_served task result h h' T' legal carries file bytes got =
-    let is : EndedRun task result ≡ EndedRun (AnswerConnections got.at got.requests (Some got.inputs) got.later (Some got.had) got.has)
-    got.result = got.is in
+client_served task result T done ends h h' legal carries file bytes got =
+    let is : WorkRun true task result ≡ WorkRun true
+    (AnswerConnections got.at got.requests (Some got.inputs) got.later (Some got.had) got.has) got.result = got.is in
     let same : task ≡ AnswerConnections got.at got.requests (Some got.inputs) got.later (Some got.had) got.has = cc in
-    let it = (subst (λ it. Carries it result h h' T') same carries).2 in
+    let it = subst (λ it. TaskEnds it T result done) same ends in
+    let answered = subst (λ it. IsDone by_history it h h') it.is carries in
     let all = all_alike got.inputs got.later got.had got.has got.exchanges it.exchanges got.are it.are in
     let found = one_alike got.exchanges it.exchanges all got.client got.among in
-    sent_at_some_point it.exchanges h h' legal it.answered found.0 found.1 file bytes
+    sent_at_some_point it.exchanges h h' legal answered found.0 found.1 file bytes
     (alike_got got.client found.0 found.2 file bytes got.got)
 
 -- a history that a run makes of another one, and that has what the clients of the run got
 abbrev AfterRun : (task : Task) (result : Result ℕ End) → History → Tables → Type 0
 AfterRun task result h T = (later : LegalFor T) × IsFrontOf h later.0
-    × ((file bytes : Bytes) → ClientGot (EndedRun task result) file bytes → IsServedAt later.0 file bytes)
+    × ((file bytes : Bytes) → ClientGot (WorkRun true task result) file bytes → IsServedAt later.0 file bytes)
 
 module _ {X : Type 0} (k : Keeping X) (again : FindsAgain k) where
-  after_run : (task : Task) (result : Result ℕ End) (start next : X) (it : EndedRunLeadsOn k task result start next)
+  after_run : (task : Task) (result : Result ℕ End) (start next : X) (it : WorkRunLeadsOn k true task result start next)
       (was : LegalFor it.before)
-      → AfterRun task result was.0 it.after
+      → AfterRun task result was.0 it.work.is.0
   after_run task result start next it was =
-      let then = carried task result it.before it.after it.did was in (
-        then.0,
-        carried_on task result was.0 then.0.0 it.after then.1,
-        client_served task result was.0 then.0.0 it.after then.0.1 then.1,
+      let then = it.work.is.2.history was.0 was.1 was.2 in (
+        (then.later, then.shows.0, then.shows.1),
+        carried_on true it.work.done was.0 then.later it.work.is.0 then.is,
+        client_served task result it.before it.work.done it.work.ends was.0 then.later then.shows.0 then.is,
       )
 
   -- ---- runs
@@ -71,10 +74,10 @@ module _ {X : Type 0} (k : Keeping X) (again : FindsAgain k) where
   now_served run start next leads Was stand file bytes got =
       let it = subst (λ run. LeadsOn k run start next) got.is leads in
       let here = subst (λ run. ClientGot run file bytes) got.is got in (
-        again.there next it.after it.left,
+        again.there next it.work.is.0 it.work.is.1,
         λ T holds. ∥∥₁_map (stand it.before it.held) (λ was.
             let then = after_run _ got.result start next it was.0 in
-            (same_for it.after T (again.same next it.after T it.left holds) then.0, then.2 file bytes here)),
+            (same_for it.work.is.0 T (again.same next it.work.is.0 T it.work.is.1 holds) then.0, then.2 file bytes here)),
       )
 
   -- two clients of one run

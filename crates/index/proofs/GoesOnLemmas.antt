@@ -1,17 +1,16 @@
 -- The history after any runs goes on from the one before them.
-use Rattle.index.proofs.Words.{◌≡◌, ℕ, List, [], ◌∷◌, Option, Some, None, Result, length, sym, subst, inl, inr, longest_line}
-use Rattle.index.proofs.Words.{TextAnswersLines, TextAnswersParsedLine, LineCallsLeave, LinesEnd-choice, LeavingTables-choice}
-use Rattle.index.proofs.Words.{LineCallsLeave-choice, by_history, Line, Answer, Accepted, Already, Refused, Call, History, first_tables}
-use Rattle.index.proofs.Words.{IsFrontOf, IsLegal, history_after, Tables, End, Carries, ComesByRun, ComesByRuns, KeepsSome, LeadTo, LeadsOn}
-use Rattle.index.proofs.Words.{MayBecome, MayCarry, Run, CreatedRun, InitRun, EndedRun, CutRun, UnusedRun, ∥∥₁_map, FindsAgain, Keeping}
-use Rattle.index.proofs.Words.{AreAmong, Task, AnswerLines, AnswerConnections, WriteReport, CountWrong, itself}
+use Rattle.index.proofs.Words.{◌≡◌, ℕ, List, [], ◌∷◌, Option, Some, None, length, sym, subst, inl, inr, longest_line, TextAnswersLines}
+use Rattle.index.proofs.Words.{TextAnswersParsedLine, by_history, Line, Accepted, Call, History, first_tables, IsFrontOf, IsLegal}
+use Rattle.index.proofs.Words.{history_after, Tables, Carries, ComesByRun, ComesByRuns, KeepsSome, LeadTo, LeadsOn, Run, CreatedRun}
+use Rattle.index.proofs.Words.{InitRun, UnusedRun, ∥∥₁_map, FindsAgain, Keeping, itself, WorkRun, leading_to, Done, DoneExchanges}
+use Rattle.index.proofs.Words.{DoneLines, DoneLook, Bool, false, true, ◌⊎◌}
 use Rattle.std.proofs.lemmas.Bool.{cases_lt}
 use Rattle.index_json.specs.Line.{line_of}
 use Rattle.index_json.specs.declared.line.Line.TheVariants as line
-use Rattle.index_rules.specs.declared.answer.Answer.TheVariants.{Fault}
 use Rattle.index.specs.GoesOn.{GoesOn, StandOn}
 use Rattle.index.proofs.ChainLemmas.{stand_by_runs}
-use Rattle.index_cli.proofs.FilesServed.{after_call, after_call_is, answered_each, as_is, longer}
+use Rattle.index.proofs.DoneLemmas.{line_made, one_made}
+use Rattle.index_cli.proofs.FilesServed.{after_call_is, answered_each, as_is, longer}
 use Rattle.index.proofs.ServedLemmas.{served_bound}
 
 -- ---- what is told of lines
@@ -31,45 +30,29 @@ told_lines h (asked ∷ lines) text h' it =
       | inr short ↦ told_asked (line_of asked) h it.0 it.2 (it.3.0 short)
     ]) (told_lines it.2 lines it.1 h' it.4)
 
--- ---- what may be left
-
-become : (h h' : History) (calls : List Call) (answers : List Answer) (T : Tables) → MayBecome h h' calls answers T → IsFrontOf h h'
-become h h' [] [] T it = as_is h h' (sym it)
-become h h' [] (answer ∷ answers) T it = absurd it
-become h h' (call ∷ calls) [] T it = absurd it
-become h h' (call ∷ calls) (Accepted ∷ answers) T it =
-    longer h (history_after h call Accepted) h' (after_call h call Accepted)
-    (become (history_after h call Accepted) h' calls answers T it.1)
-become h h' (call ∷ calls) (Already ∷ answers) T it = become h h' calls answers T it
-become h h' (call ∷ calls) (Refused refusal ∷ answers) T it = become h h' calls answers T it
-become h h' (call ∷ calls) (Fault fault ∷ answers) T (inl it) = become h h' calls answers T it
-become h h' (call ∷ calls) (Fault fault ∷ answers) T (inr it) = after_call_is h call Accepted h' (sym it.1.1)
-
 -- ---- a run
 
-pub carried_on : (task : Task) (result : Result ℕ End) (h h' : History) (T' : Tables) → Carries task result h h' T' → IsFrontOf h h'
-carried_on (AnswerLines given left had has) result h h' T' it =
-    (LinesEnd-choice (IsFrontOf h h') (λ lines text T. TextAnswersLines by_history h lines text h') (λ a lines text T. Unit {0}) T'
-    (λ lines text told. (told_lines h lines text h' told, tt)) given left had has it.0 it.2).0
-carried_on (AnswerConnections at requests coming coming' replies replies') result h h' T' it =
-    answered_each it.2.exchanges h h' it.2.answered
-carried_on (WriteReport had has) result h h' T' it = as_is h h' it
-carried_on CountWrong result h h' T' it = as_is h h' it
+-- with the history that was reached, or that with one call more
+reached_on : (h reached h' : History) → IsFrontOf h reached → (reached ≡ h') ⊎ ((call : Call) × (h' ≡ history_after reached call Accepted))
+    → IsFrontOf h h'
+reached_on h reached h' front (inl is) = longer h reached h' front (as_is reached h' (sym is))
+reached_on h reached h' front (inr made) = longer h reached h' front (after_call_is reached made.0 Accepted h' made.1)
 
-may_carry_on : (task : Task) (result : Result ℕ End) (h h' : History) (T' : Tables) → MayCarry task result h h' T' → IsFrontOf h h'
-may_carry_on (AnswerLines given left had has) result h h' T' it =
-    (LinesEnd-choice (IsFrontOf h h') (LineCallsLeave (MayBecome h h')) (λ a lines text T. Unit {0}) T'
-    (λ lines text told. (
-      (LineCallsLeave-choice (IsFrontOf h h') T' (MayBecome h h') (λ a calls answers T. Unit {0})
-          (λ calls answers left. (become h h' calls answers T' left, tt)) lines text told).0,
-      tt,
-    ))
-    given left had has it.0 it.2).0
-may_carry_on (AnswerConnections at requests coming coming' replies replies') result h h' T' it =
-    (LeavingTables-choice (AreAmong coming coming' replies replies') (IsFrontOf h h') T' (MayBecome h h') (λ a calls answers T. Unit {0})
-    (λ calls answers left. (become h h' calls answers T' left, tt)) by_history at it.0 h it.2).0
-may_carry_on (WriteReport had has) result h h' T' it = as_is h h' it
-may_carry_on CountWrong result h h' T' it = as_is h h' it
+pub carried_on : (closed : Bool) (done : Done) (h h' : History) (T : Tables) → Carries closed done h h' T → IsFrontOf h h'
+carried_on true (DoneLines lines text) h h' T it = told_lines h lines text h' it
+carried_on true (DoneExchanges exchanges) h h' T it = answered_each exchanges h h' it
+carried_on true DoneLook h h' T it = as_is h h' it
+carried_on false (DoneLines lines text) h h' T (went, is) =
+    reached_on h went.reached h' (told_lines h went.earlier went.told went.reached went.answered) (elim is [
+      | inl same ↦ inl same
+      | inr made ↦ let it = line_made (leading_to h') went.reached T went.later made in inr (it.0, sym it.1.1)
+    ])
+carried_on false (DoneExchanges exchanges) h h' T (went, is) =
+    reached_on h went.reached h' (answered_each went.earlier h went.reached went.answered) (elim is [
+      | inl same ↦ inl same
+      | inr made ↦ let it = one_made (leading_to h') went.reached T went.later made in inr (it.0, sym it.1.1)
+    ])
+carried_on false DoneLook h h' T it = as_is h h' it
 
 -- from a history of a kind on one goes
 abbrev From : (History → Type 0) → History → Type 0
@@ -82,15 +65,15 @@ module _ {X : Type 0} (k : Keeping X) (again : FindsAgain k) where
   by_run (CreatedRun user token) start next it some Was h' new = absurd (some it.0)
   by_run (InitRun user token) start next it some Was h' (inl was) = (h', was, itself h')
   by_run (InitRun user token) start next it some Was h' (inr new) = absurd (some new.0)
-  by_run (EndedRun task result) start next it some Was h' comes = (comes.0, comes.1, carried_on task result comes.0 h' it.after comes.4)
-  by_run (CutRun task result) start next it some Was h' comes = (comes.0, comes.1, may_carry_on task result comes.0 h' comes.4.0 comes.4.2)
+  by_run (WorkRun closed task result) start next it some Was h' comes =
+      (comes.0, comes.1, carried_on closed it.work.done comes.0 h' comes.3.0 comes.3.3)
   by_run UnusedRun start next it some Was h' comes = (h', comes, itself h')
 
   pub there_by_run : (run : Run) (start next : X) → LeadsOn k run start next → KeepsSome k start next
   there_by_run (CreatedRun user token) start next it = λ some. again.there next (first_tables user token) it.1
   there_by_run (InitRun user token) start next it = it.0
-  there_by_run (EndedRun task result) start next it = λ some. again.there next it.after it.left
-  there_by_run (CutRun task result) start next it = λ some. it.there
+  there_by_run (WorkRun true task result) start next it = λ some. again.there next it.work.is.0 it.work.is.1
+  there_by_run (WorkRun false task result) start next it = λ some. it.work.is.0
   there_by_run UnusedRun start next it = it.0
 
   by_runs : (runs : List Run) (start last : X) (leads : LeadTo k runs start last) → (¬ k.HoldsNone start)

@@ -26,8 +26,9 @@ pub mod WrongLooks
 pub mod WrongMessages
 pub mod WrongReplies
 pub mod WrongTexts
+pub mod WrongWent
 pub mod ServesLemmas
-pub mod LinesLemmas
+pub mod DoneLemmas
 pub mod RefutedLemmas
 pub mod RefusedLemmas
 pub mod AlikeLemmas

@@ -1,17 +1,18 @@
 -- What no run may do: wrong outcomes do not meet the words of the contracts.
 use Rattle.index.proofs.Words.{◌≡◌, ◌∙◌, ◌+◌, ℕ, suc, Result, Some, refl, ap, subst, inl, inr, List, [], ◌∷◌, length, arith, Came}
-use Rattle.index.proofs.Words.{ClientTaken, Exchange, KnownList, KnownReplies, Image, first_tables, Bytes, Tables, End, CreatedRun, CutRun}
-use Rattle.index.proofs.Words.{LeadsOn, Holds, HoldsNone, in_files, AreAmong, Task}
+use Rattle.index.proofs.Words.{ClientTaken, Exchange, KnownList, KnownReplies, Image, first_tables, Bytes, Tables, End, CreatedRun, LeadsOn}
+use Rattle.index.proofs.Words.{Holds, HoldsNone, in_files, AreAmong, Task, WorkRun, Bool, false, true}
 use Rattle.index.proofs.ThereLemmas.{current_is_there, not_found}
 
 -- trees of an index are not trees that have nothing of one
 pub index_is_not_none : (image : Image) (T : Tables) (holds : Holds image T) (none : HoldsNone image) → ¬ (none.db.trees ≡ holds.db.trees)
 index_is_not_none image T holds none same = not_found none holds.db T same holds.found
 
--- a run that was cut short leaves no files with nothing of an index
-pub cut_run_leaves_an_index : (task : Task) (result : Result ℕ End) (start next : Image) → HoldsNone next
-    → ¬ LeadsOn in_files (CutRun task result) start next
-cut_run_leaves_an_index task result start next none leads = leads.there none
+-- a run that did a task leaves no files with nothing of an index
+pub work_run_leaves_an_index : (closed : Bool) (task : Task) (result : Result ℕ End) (start next : Image) → HoldsNone next
+    → ¬ LeadsOn in_files (WorkRun closed task result) start next
+work_run_leaves_an_index true task result start next none leads = current_is_there next leads.work.is.0 leads.work.is.1 none
+work_run_leaves_an_index false task result start next none leads = leads.work.is.0 none
 
 -- nor does an init that ended well, which made an index if there was none
 pub created_run_leaves_an_index : (user token : Bytes) (start next : Image) → HoldsNone next

@@ -6,7 +6,7 @@ use Rattle.index.proofs.Words.{over_files, Held, opens_again, Image, FindsIn, Ha
 use Rattle.index.proofs.Words.{IsClean, has_any_of, BadFirstUser, OutOfMemory, IsBadFirstUser, Bytes, Tables, tables_in, index_schema}
 use Rattle.index.proofs.Words.{IsCommitted, IsCurrent, IsFound, AreCurrent, IsWorking, MayLeave, Unopened, AreClean, Unclosed, HoldsOnly}
 use Rattle.index.proofs.Words.{IsCleanClosed, OpensAgain, FindsOnly, CrashLeavesOnlyTables, Created, CreatedInLog, Holds, HoldsCurrent}
-use Rattle.index.proofs.Words.{HoldsNone, Interrupted, IsMadeNew, Ran, in_files}
+use Rattle.index.proofs.Words.{HoldsNone, Interrupted, IsMadeNew, Ran, in_files, DoesInPart, End, Task}
 use Rattle.std.proofs.Common.{◌↔◌}
 use Rattle.sqlite.specs.declared.file.Leftover.TheVariants as leftover
 use Rattle.sqlite.specs.Schema.{Schema}
@@ -19,9 +19,9 @@ use Rattle.sqlite_store.specs.Unopened.{state_of}
 use Rattle.index_rules.specs.declared.open.OpenFault.TheVariants.{NotEmpty}
 use Rattle.index_sql_schema.specs.Index.{version_in}
 use Rattle.index_tables.specs.Opened.{IsRefusedAs, IsTaken}
-use Rattle.index.proofs.ThereLemmas.{not_same, there_by}
+use Rattle.index.proofs.ThereLemmas.{not_left, not_same, there_by}
 use Rattle.index.specs.Openings.{Refused, ShutLeaves}
-use Rattle.index.specs.Runs.{Began, CrashLeavesDatabase, HoldsAfterCrash}
+use Rattle.index.specs.Runs.{Began, CrashLeavesDatabase, CrashMayLeave, HoldsAfterCrash}
 use Rattle.index.specs.Runs.{Worked}
 
 -- an index of today is found as it is, and never as one of version 1
@@ -118,21 +118,24 @@ module _ {D : Type 0} {g : Ghosts D} where
       (λ allowed. left holds.db.trees allowed found (tables_of_found holds.db found holds.found))
 
   -- work between an opening and a close that failed
-  pub interrupted_by : (Told : Tables → Type 0) (Left : Tables → Tables
-      → Type 0) (start : Image) (first last : Held (FileStore D g)) (store : FileStore D g) → IsOpened first
-      → FindsIn start (file_state first)
-      → Began Told Left (file_state first).now (file_state last).may_leave → ((T : Tables) → (T' : Tables) × (¬ Left T T'))
-      → IsClosed last store → OpensAgain last.store → Interrupted Told Left start store
-  interrupted_by Told Left start first last store opened finds began other closed again = record {
-    before = began.before;
-    held = holds_of start first began.before opened finds began.found;
-    told = began.told;
-    left = λ db may. began.left db (closed.quiet.outcomes db may);
-    last = last;
-    closed = closed;
-    next = found_next (Left began.before) last again began.left;
-    there = there_by (Left began.before) last.store again began.left (other began.before);
-  }
+  pub interrupted_by : (task : Task) (told : Result ℕ End) (start : Image) (first last : Held (FileStore D g)) (store : FileStore D g)
+      → IsOpened first → FindsIn start (file_state first)
+      → Began (DoesInPart task told) (file_state first).now (file_state last).may_leave
+      → IsClosed last store → OpensAgain last.store → Interrupted (DoesInPart task told) start store
+  interrupted_by task told start first last store opened finds began closed again =
+      let Left = CrashMayLeave (file_state last).may_leave in
+      let left : CrashLeavesOnlyTables (file_state last).may_leave Left = λ db may T is. (db, may, is) in
+      let other = not_left task told began.before Left began.did in
+      record {
+        before = began.before;
+        held = holds_of start first began.before opened finds began.found;
+        last = last;
+        closed = closed;
+        did = began.did;
+        left = λ db may. left db (closed.quiet.outcomes db may);
+        next = found_next Left last again left;
+        there = there_by Left last.store again left (other.0, other.2);
+      }
 
   none_of : (start : Image) (first : Held (FileStore D g)) → IsOpened first → FindsIn start (file_state first)
       → has_any_of (file_state first).now.schema index_schema.tables ≡ false → HoldsNone start

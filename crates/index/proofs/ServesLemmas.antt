@@ -1,13 +1,17 @@
 -- Connections that were answered, by what is known of them before and after.
-use Rattle.index.proofs.Words.{◌≡◌, ℕ, List, [], Option, None, Result, Ok, Err, ap, inl, inr, refl, subst, subst₂, sym, arith, Tables, Came}
-use Rattle.index.proofs.Words.{Closed, Exchange, KnownList, KnownReplies, ServeEnd, CallsLeave, by_history, by_tables, History, IsLegal}
-use Rattle.index.proofs.Words.{StandsFor, End, end_of_serving, AreAmong, IsNoListening, IsServingEnd}
+use Rattle.index.proofs.Words.{◌≡◌, ℕ, List, [], Option, None, Result, Ok, Err, ap, inl, inr, length, refl, subst, subst₂, sym, arith}
+use Rattle.index.proofs.Words.{Tables, Came, Closed, Exchange, KnownList, KnownReplies, ServeEnd, Rules, by_history, by_tables, StandsFor}
+use Rattle.index.proofs.Words.{End, end_of_serving, AnswerConnections, AreAmong, DoneExchanges, IsNoListening, IsServingEnd, Works}
+use Rattle.index.proofs.Words.{MayLeave}
 use Rattle.index_cli.specs.Connections.{AreOn, IsRest}
 use Rattle.index_cli.specs.declared.end.ServeEnd.TheVariants as serve_end
-use Rattle.index_cli.specs.ServesFront.{LeavingTables, ServesFirst}
-use Rattle.index_cli.specs.Serving.{IsCount, ServesByHistory, Serves}
+use Rattle.index_cli.specs.DeskAnswers.{DeskAnswersConnections}
+use Rattle.index_cli.specs.Serving.{IsCount}
+use Rattle.index_cli.specs.Went.{Went}
+use Rattle.index_http.specs.Steps.{DeskStep, at_desk}
+use Rattle.index_rules.specs.declared.books.Books.{Ghosts}
 use Rattle.index.specs.declared.end.End.TheVariants as end
-use Rattle.index.specs.Tasks.{AnswersConnections, AnswersFirstConnections, IsUpTo, LeavesConnections}
+use Rattle.index.specs.Tasks.{IsUpTo}
 
 -- from what gives connections to what is known of them
 pub among : {C : Type 0} (coming : C → KnownList) (replies : C → KnownReplies) (old new : C) (a a' : KnownList) (r r' : KnownReplies)
@@ -34,107 +38,38 @@ by_clock at (Err early) clock is =
     let same : early ≡ serve_end.Clock = cc in
     clock (ap (λ (it : ServeEnd). Err it) same)
 
-module _ (Are Are' : List Exchange → Type 0) (are : (exchanges : List Exchange) → Are exchanges
-    → Are' exchanges) (at : Option ℕ) (requests : ℕ) (ended : Result (Unit {0}) ServeEnd) (clock : ended ≡ Err serve_end.Clock
-    → at ≡ None) where
-  pub serves_done : (T T' : Tables) → (count : ℕ) × IsCount requests ended count × Serves Are by_tables at count T T'
-      → ((h : History) → IsLegal h → StandsFor T h → (count : ℕ) × IsCount requests ended count × ServesByHistory Are h at count T')
-      → AnswersConnections Are' at requests T T' (end_of_serving ended)
-  serves_done T T' it by = record {
+-- connections that a desk answered
+pub serves_work : {S : Type 0} (desk : DeskStep S) (Are : List Exchange → Type 0) (a a' : KnownList) (r r' : KnownReplies)
+    → ((exchanges : List Exchange) → Are exchanges → AreAmong a a' r r' exchanges)
+    → (at : Option ℕ) (requests : ℕ) (ended : Result (Unit {0}) ServeEnd) → (ended ≡ Err serve_end.Clock → at ≡ None)
+    → DeskAnswersConnections desk Are at (IsCount requests ended)
+    → Works desk (AnswerConnections at requests a a' r r') (end_of_serving ended)
+serves_work desk Are a a' r r' are at requests ended clock it = record {
+  done = DoneExchanges it.exchanges;
+  ends = λ honest clean. record {
     ends = inr (ended, refl);
     clock = by_clock at ended clock;
-    tables = (
-      it.0,
-      up_to requests ended it.0 it.1,
-      record {
-        exchanges = it.2.exchanges;
-        are = are it.2.exchanges it.2.are;
-        answered = it.2.answered;
-        counted = it.2.counted;
-        are_given = it.2.are_given;
-      },
-    );
-    history = λ h legal stands.
-        let by_then = by h legal stands in
-        let it = by_then.2.serves in (
-          by_then.0,
-          up_to requests ended by_then.0 by_then.1,
-          record {
-            later = by_then.2.later;
-            serves = record {
-              exchanges = it.exchanges;
-              are = are it.exchanges it.are;
-              answered = it.answered;
-              counted = it.counted;
-              are_given = it.are_given;
-            };
-            legal = by_then.2.legal;
-            stands = by_then.2.stands;
-          },
-        );
-  }
+    exchanges = it.exchanges;
+    are = are it.exchanges it.are;
+    is = refl;
+    counted = up_to requests ended (length it.exchanges) it.counted;
+    are_given = it.are_given;
+  };
+  answered = it.answered;
+  went = it.went;
+}
 
-  pub serves_told : (T : Tables) → (count : ℕ) × IsCount requests ended count × ServesFirst Are by_tables at count T
-      → ((h : History) → IsLegal h → StandsFor T h → (count : ℕ) × IsCount requests ended count × ServesFirst Are by_history at count h)
-      → AnswersFirstConnections Are' at requests T (end_of_serving ended)
-  serves_told T it by = record {
-    ends = inr (ended, refl);
-    clock = by_clock at ended clock;
-    tables = (
-      it.0,
-      up_to requests ended it.0 it.1,
-      record {
-        exchanges = it.2.exchanges;
-        are = are it.2.exchanges it.2.are;
-        answered = it.2.answered;
-        counted = it.2.counted;
-        are_given = it.2.are_given;
-      },
-    );
-    history = λ h legal stands.
-        let it = by h legal stands in (
-          it.0,
-          up_to requests ended it.0 it.1,
-          record {
-            exchanges = it.2.exchanges;
-            are = are it.2.exchanges it.2.are;
-            answered = it.2.answered;
-            counted = it.2.counted;
-            are_given = it.2.are_given;
-          },
-        );
-  }
-
-  pub serves_left : (T T' : Tables) → (count : ℕ) × IsCount requests ended count
-      × ServesFirst (LeavingTables Are (CallsLeave by_tables T) T') by_tables at count T
-      → ((h : History) → IsLegal h → StandsFor T h
-      → (count : ℕ) × IsCount requests ended count × ServesFirst (LeavingTables Are (CallsLeave by_history h) T') by_history at count h)
-      → LeavesConnections Are' at requests T T' (end_of_serving ended)
-  serves_left T T' it by = record {
-    tables = (
-      it.0,
-      up_to requests ended it.0 it.1,
-      record {
-        exchanges = it.2.exchanges;
-        are = (are it.2.exchanges it.2.are.0, it.2.are.1);
-        answered = it.2.answered;
-        counted = it.2.counted;
-        are_given = it.2.are_given;
-      },
-    );
-    history = λ h legal stands.
-        let it = by h legal stands in (
-          it.0,
-          up_to requests ended it.0 it.1,
-          record {
-            exchanges = it.2.exchanges;
-            are = (are it.2.exchanges it.2.are.0, it.2.are.1);
-            answered = it.2.answered;
-            counted = it.2.counted;
-            are_given = it.2.are_given;
-          },
-        );
-  }
+none_went : {S : Type 0} (rules : Rules S) (s : S) (MayLeave : Tables → Type 0) → ((T : Tables) → MayLeave T → rules.Shows s T)
+    → Went rules [] s MayLeave
+none_went rules s MayLeave shows = record {
+  later = [];
+  earlier = [];
+  all = refl;
+  reached = s;
+  answered = refl;
+  shut = inl refl;
+  crash = λ T may. inl (shows T may);
+}
 
 -- no connection was answered
 module _ (a a' : KnownList) (r r' : KnownReplies) (kept : (a' ≡ a) × (r' ≡ r)) (early : End) (fault : IsNoListening early) where
@@ -156,51 +91,28 @@ module _ (a a' : KnownList) (r r' : KnownReplies) (kept : (a' ≡ a) × (r' ≡ 
     | inr told ↦ let no : end.WriteFault ≡ end.Connections serve_end.Clock = cc in absurd (cc no)
   ]
 
-  pub none_answered : (at : Option ℕ) (requests : ℕ) (T : Tables) → AnswersFirstConnections (AreAmong a a' r r') at requests T (Err early)
-  none_answered at requests T = record {
-    ends = (none_end requests).0;
-    clock = none_by_clock at (Err early) refl;
-    tables = (
-      0,
-      (none_end requests).1,
-      record {
-        exchanges = [];
-        are = none_are;
-        answered = inl (T, refl);
-        counted = refl;
-        are_given = tt;
-      },
-    );
-    history = λ h legal stands. (
-      0,
-      (none_end requests).1,
-      record { exchanges = []; are = none_are; answered = inl (h, refl); counted = refl; are_given = tt },
-    );
-  }
-
-  pub none_left : (at : Option ℕ) (requests : ℕ) (T T' : Tables) → T' ≡ T
-      → LeavesConnections (AreAmong a a' r r') at requests T T' (Err early)
-  none_left at requests T T' same = record {
-    tables = (
-      0,
-      (none_end requests).1,
-      record {
-        exchanges = [];
-        are = (none_are, same);
-        answered = inl (T, refl);
-        counted = refl;
-        are_given = tt;
-      },
-    );
-    history = λ h legal stands. (
-      0,
-      (none_end requests).1,
-      record {
-        exchanges = [];
-        are = (none_are, (legal, subst (λ T. StandsFor T h) (sym same) stands));
-        answered = inl (h, refl);
-        counted = refl;
-        are_given = tt;
-      },
-    );
+  -- a desk at which nothing was done
+  pub none_works : {S : Type 0} (books : Ghosts S) (now : S) → ((s : S) → books.IsHonest s → (T : Tables) → books.may_leave s T
+      → T ≡ books.tables s)
+      → (at : Option ℕ) (requests : ℕ) → Works (at_desk books now now) (AnswerConnections at requests a a' r r') (Err early)
+  none_works books now settled at requests = record {
+    done = DoneExchanges [];
+    ends = λ honest clean. record {
+      ends = (none_end requests).0;
+      clock = none_by_clock at (Err early) refl;
+      exchanges = [];
+      are = none_are;
+      is = refl;
+      counted = (none_end requests).1;
+      are_given = tt;
+    };
+    answered = λ honest. record {
+      tables = λ one. record { later = books.tables now; is = refl; shows = refl };
+      history = λ h legal stands. record { later = h; is = refl; shows = (legal, stands) };
+    };
+    went = λ honest clean. record {
+      tables = λ one. none_went by_tables (books.tables now) (books.may_leave now) (λ T may. settled now honest T may);
+      history = λ h legal stands. none_went by_history h (books.may_leave now)
+          (λ T may. (legal, subst (λ T. StandsFor T h) (sym (settled now honest T may)) stands));
+    };
   }

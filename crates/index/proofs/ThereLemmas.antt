@@ -1,10 +1,9 @@
 -- An index that is there is seen: no database holds one and nothing of one, and what may be left of work is not all that there could be.
 use Rattle.index.proofs.Words.{◌≡◌, ◌∙◌, ℕ, Bool, true, false, cond, List, [], ◌∷◌, Option, Some, None, Result, refl, sym, ap, subst, inl}
-use Rattle.index.proofs.Words.{inr, get, ∥∥₁_elim, FileStore, Database, over_files, Image, Trees, opens_again, Ghosts, Schema}
-use Rattle.index.proofs.Words.{LineCallsLeave, LinesEnd-choice, LeavingTables-choice, LineCallsLeave-choice, by_tables, CallsLeave, Answer}
-use Rattle.index.proofs.Words.{Accepted, Already, Refused, Call, Bytes, Tables, has_any_of, index_schema, IsCurrent, IsFound, AreCurrent}
-use Rattle.index.proofs.Words.{End, OpensAgain, CrashLeavesOnlyTables, HoldsCurrent, HoldsNone, AreAmong, Task, AnswerLines}
-use Rattle.index.proofs.Words.{AnswerConnections, WriteReport, CountWrong, TaskMayLeave, over}
+use Rattle.index.proofs.Words.{inr, get, ∥∥₁_elim, FileStore, Database, over_files, Image, Trees, opens_again, Ghosts, Schema, by_tables}
+use Rattle.index.proofs.Words.{Call, Bytes, Tables, has_any_of, index_schema, IsCurrent, IsFound, AreCurrent, End, OpensAgain}
+use Rattle.index.proofs.Words.{CrashLeavesOnlyTables, HoldsCurrent, HoldsNone, Task, DoesInPart, Done, DoneExchanges, DoneLines, DoneLook}
+use Rattle.index.proofs.Words.{HasCall, IsDoneInPart, over}
 use Rattle.std.proofs.Common.{◌||◌}
 use Rattle.std.specs.List.{AllZip}
 use Rattle.std.specs.FinMap.{insert, remove}
@@ -17,7 +16,6 @@ use Rattle.sqlite_store.specs.FileStore as store
 use Rattle.sqlite_value.specs.Order.{Row}
 use Rattle.sqlite_value.specs.declared.value.Value.TheVariants.{Text}
 use Rattle.index_names.specs.FileName as names
-use Rattle.index_rules.specs.declared.answer.Answer.TheVariants.{Fault}
 use Rattle.index_rules.specs.declared.answer.Refusal.TheVariants.{BadFileName}
 use Rattle.index_rules.specs.declared.call.Request.{Request}
 use Rattle.index_rules.specs.declared.call.Request.TheVariants.{BanFile}
@@ -25,12 +23,12 @@ use Rattle.index_rules.specs.Effect.{tables_with_call}
 use Rattle.index_rules.specs.Facts.{facts_in}
 use Rattle.index_rules.specs.Maps.{TextSet, same}
 use Rattle.index_rules.specs.Requests.{read_file}
-use Rattle.index_rules.specs.Runs.{tables_after}
 use Rattle.index_rules.specs.Verdict.{Accept, verdict_now}
 use Rattle.index_rules.proofs.Accepted.{accepted}
 use Rattle.index_rules.proofs.KeyLemmas.{cases_same, get-put, get-without, same-refl}
 use Rattle.index_rules.proofs.PastReading.{read_itself}
 use Rattle.index_sql_opening.specs.Names.{has_table}
+use Rattle.index.proofs.DoneLemmas.{line_made, one_made}
 
 -- ---- a list of objects has one first table
 
@@ -125,37 +123,33 @@ keeps_empty T at token (BanFile file) accepts =
     put_other T.bans file (other_than_empty file reads)
 keeps_empty T at token request accepts = refl
 
-leaves_empty : (T : Tables) (calls : List Call) (answers : List Answer) (T' : Tables) → CallsLeave by_tables T calls answers T'
-    → get T'.bans [] ≡ get T.bans []
-leaves_empty T [] [] T' it = ap (λ (T : Tables). get T.bans []) it
-leaves_empty T [] (answer ∷ answers) T' it = absurd it
-leaves_empty T (call ∷ calls) [] T' it = absurd it
-leaves_empty T (call ∷ calls) (Accepted ∷ answers) T' it =
-    leaves_empty (tables_after T call Accepted) calls answers T' it.1 ∙ keeps_empty T call.at call.token call.request it.0
-leaves_empty T (call ∷ calls) (Already ∷ answers) T' it = leaves_empty T calls answers T' it
-leaves_empty T (call ∷ calls) (Refused refusal ∷ answers) T' it = leaves_empty T calls answers T' it
-leaves_empty T (call ∷ calls) (Fault fault ∷ answers) T' (inl it) = leaves_empty T calls answers T' it
-leaves_empty T (call ∷ calls) (Fault fault ∷ answers) T' (inr it) =
-    ap (λ (T : Tables). get T.bans []) it.1.1 ∙ keeps_empty T call.at call.token call.request it.1.0
-
 abbrev KeepsEmpty : Tables → Tables → Type 0
 KeepsEmpty T T' = get T'.bans [] ≡ get T.bans []
 
-left_keeps : (task : Task) (result : Result ℕ End) (T T' : Tables) → TaskMayLeave task result T T' → KeepsEmpty T T'
-left_keeps (AnswerLines given left had has) result T T' it =
-    (LinesEnd-choice (KeepsEmpty T T') (LineCallsLeave (CallsLeave by_tables T)) (λ a lines text T. Unit {0}) T'
-    (λ lines text told. (
-      (LineCallsLeave-choice (KeepsEmpty T T') T' (CallsLeave by_tables T) (λ a calls answers T. Unit {0})
-          (λ calls answers leaves. (leaves_empty T calls answers T' leaves, tt)) lines text told).0,
-      tt,
-    ))
-    given left had has it.ended it.tables).0
-left_keeps (AnswerConnections at requests coming coming' replies replies') result T T' it =
-    (LeavingTables-choice (AreAmong coming coming' replies replies') (KeepsEmpty T T') T' (CallsLeave by_tables T)
-    (λ a calls answers T. Unit {0}) (λ calls answers leaves. (leaves_empty T calls answers T' leaves, tt))
-    by_tables at it.tables.0 T it.tables.2).0
-left_keeps (WriteReport had has) result T T' it = ap (λ (T : Tables). get T.bans []) it
-left_keeps CountWrong result T T' it = ap (λ (T : Tables). get T.bans []) it
+call_keeps : (T T' : Tables) (call : Call) → HasCall by_tables T call T' → KeepsEmpty T T'
+call_keeps T T' call has = ap (λ (T : Tables). get T.bans []) has.1 ∙ keeps_empty T call.at call.token call.request has.0
+
+same_keeps : (T T' : Tables) → T' ≡ T → KeepsEmpty T T'
+same_keeps T T' same = ap (λ (T : Tables). get T.bans []) same
+
+-- the tables that were reached, and what a crash may leave
+left_keeps : (done : Done) (T : Tables) (MayLeave : Tables → Type 0) → IsDoneInPart by_tables done T MayLeave
+    → (reached : Tables) × ((T' : Tables) → MayLeave T' → KeepsEmpty reached T')
+left_keeps (DoneLines lines text) T MayLeave went = (
+  went.reached,
+  λ T' may. elim (went.crash T' may) [
+    | inl same ↦ same_keeps went.reached T' same
+    | inr made ↦ let it = line_made by_tables went.reached T' went.later made in call_keeps went.reached T' it.0 it.1
+  ],
+)
+left_keeps (DoneExchanges exchanges) T MayLeave went = (
+  went.reached,
+  λ T' may. elim (went.crash T' may) [
+    | inl same ↦ same_keeps went.reached T' same
+    | inr made ↦ let it = one_made by_tables went.reached T' went.later made in call_keeps went.reached T' it.0 it.1
+  ],
+)
+left_keeps DoneLook T MayLeave shows = (T, λ T' may. same_keeps T T' (shows T' may))
 
 -- tables with a ban of the empty name, or without it
 toggled : (T : Tables) (o : Option (Unit {0})) → get T.bans [] ≡ o → (T' : Tables) × (KeepsEmpty T T' → ⊥)
@@ -173,14 +167,13 @@ toggled T (Some there) is = (
       let both : None ≡ Some there = sym gone ∙ keeps ∙ is in cc,
 )
 
-pub not_left : (task : Task) (result : Result ℕ End) (T : Tables) → (T' : Tables) × (¬ TaskMayLeave task result T T')
-not_left task result T = let it = toggled T (get T.bans []) refl in (it.0, λ left. it.1 (left_keeps task result T it.0 left))
-
 -- with the bytes of a volume too
-pub not_left_over : (volume : List ℕ) (task : Task) (result : Result ℕ End) (T : Tables)
-    → (places : Tables) × (¬ TaskMayLeave task result T (over volume places))
-not_left_over volume task result T =
-    let it = toggled T (get T.bans []) refl in (it.0, λ left. it.1 (left_keeps task result T (over volume it.0) left))
+pub not_left : (task : Task) (result : Result ℕ End) (T : Tables) (MayLeave : Tables → Type 0) → DoesInPart task result T MayLeave
+    → (T' : Tables) × ((volume : List ℕ) → ¬ MayLeave (over volume T')) × (¬ MayLeave T')
+not_left task result T MayLeave it =
+    let left = left_keeps it.done T MayLeave (it.is.tables it.one_bearer) in
+    let other = toggled left.0 (get left.0.bans []) refl in
+    (other.0, (λ volume may. other.1 (left.1 (over volume other.0) may)), λ may. other.1 (left.1 other.0 may))
 
 pub not_same : (T : Tables) → (T' : Tables) × (¬ (T' ≡ T))
 not_same T = let it = toggled T (get T.bans []) refl in (it.0, λ same. it.1 (ap (λ (T : Tables). get T.bans []) same))

@@ -1,18 +1,18 @@
 -- Work over a database and its volume leads from the pair that it found to the next one.
-use Rattle.index.proofs.Words.{◌≡◌, ◌∙◌, ap, inl, inr, false, refl, subst, sym, ℕ, List, Result, Ok, Err, IfErr, IfOk, IsTrue, None, Some}
-use Rattle.index.proofs.Words.{length, ∥∥₁_elim, ∥∥₁_map, HasCleanDisk, IsClean, IsClosed, CutRun, IsLeftPair, opens_again}
-use Rattle.index.proofs.Words.{IsCopied, FileStore, Database, file_state, over_files, Held, Image, AreClean, Ghosts, Files, OpenFault}
-use Rattle.index.proofs.Words.{first_tables, Bytes, Tables, has_any_of, tables_of, index_schema, BooksState, IsHonest, IsWorking}
-use Rattle.index.proofs.Words.{IsCommitted, AreNew, TakesPlaced, Fits, over, Unclosed, End, CreatedRun, EndedRun, LeadsOn, HoldsPlaced}
-use Rattle.index.proofs.Words.{HoldsPlacedAlone, IsNextPair, IsNextOf, Pair, in_volume, HoldsOnly, IsOpenedOn, IsWhyUnfound, placed_side}
-use Rattle.index.proofs.Words.{Task, TaskMayLeave, HasOneBearer, OpensAgain}
+use Rattle.index.proofs.Words.{◌≡◌, ◌∙◌, ap, inl, inr, false, refl, subst, sym, ℕ, List, Result, Ok, Err, IfErr, IfOk, IsTrue, true, length}
+use Rattle.index.proofs.Words.{∥∥₁_elim, ∥∥₁_map, HasCleanDisk, IsClean, IsClosed, WorkRun, IsLeftPair, opens_again, IsCopied, FileStore}
+use Rattle.index.proofs.Words.{file_state, over_files, Held, Image, AreClean, Ghosts, Files, OpenFault, first_tables, Bytes, Tables}
+use Rattle.index.proofs.Words.{has_any_of, tables_of, index_schema, BooksState, IsHonest, IsWorking, IsCommitted, AreNew, TakesPlaced, Fits}
+use Rattle.index.proofs.Words.{over, Unclosed, End, CreatedRun, LeadsOn, HoldsPlaced, IsNextPair, IsNextOf, Pair, in_volume, HoldsOnly}
+use Rattle.index.proofs.Words.{IsOpenedOn, IsWhyUnfound, placed_side, Task, DoesInPart, OpensAgain}
 use Rattle.sqlite.specs.Effect.{IsDatabase}
 use Rattle.index_sql_schema.proofs.BearerLemmas.{one_bearer}
 use Rattle.index_volume_books.specs.Through.{BothClean, both_tables, left_of}
 use Rattle.index.specs.InVolume.{AllClean}
-use Rattle.index.specs.Pairs.{EndsOver, HasDatabaseOf, IsDatabaseOf, LeavesToNext, TookAndRan}
+use Rattle.index.specs.Pairs.{EndsOver, HasDatabaseOf, LeavesToNext, TookAndRan}
 use Rattle.index.proofs.RunLemmas.{clean_before, found_among, only_of, working_of}
-use Rattle.index.proofs.ThereLemmas.{no_proof, not_left_over, not_these}
+use Rattle.index.proofs.DoneLemmas.{cut_to}
+use Rattle.index.proofs.ThereLemmas.{no_proof, not_left, not_these}
 use Rattle.index.proofs.VolumeLemmas.{image_to_next, left_to_next, no_places}
 
 -- ---- the database that was found
@@ -71,23 +71,30 @@ module _ {D E : Type 0} {g : Ghosts D} (e : Ghosts E) (task : Task) (start : Pai
   ended : {result : Result ℕ End} (disk : E) → e.seen disk ≡ start.volume → (it : TookAndRan e task books.conn disk result)
       → (files : Files D) → IsCopied it.ran.last files → AllClean g e files it.ran.last_disk
       → (next : Pair) → IsNextPair g e files it.ran.last_disk next
-      → LeadsOn in_volume (EndedRun task it.ran.early) start next
+      → LeadsOn in_volume (WorkRun true task it.ran.early) start next
   ended disk same it files copied clean next is =
       let honest = it.ran.honest (working_of it.ran.last files copied) in
       let was = it.ran.worked.honest (honest, clean.1) in
       record {
         before = both_tables (placed_side over_files e it.first it.first_disk);
-        after = both_tables (placed_side over_files e it.ran.last it.ran.last_disk);
         held = held disk same it was.0 was.1;
-        did = it.ran.worked.done (honest, clean.1) (one_bearer (file_state it.first).now was.0.index);
-        left = left_to_next e it.ran.last files it.ran.last_disk (tables_of over_files it.ran.last) it.ran.left.end_at copied
-            (committed_of it.ran.last honest) (it.ran.left.placed honest) (it.ran.left.kept clean.1) next is;
+        work = record {
+          one_bearer = one_bearer (file_state it.first).now was.0.index;
+          done = it.ran.worked.done;
+          ends = it.ran.worked.ends was (honest.clean, clean.1);
+          is = (
+            both_tables (placed_side over_files e it.ran.last it.ran.last_disk),
+            left_to_next e it.ran.last files it.ran.last_disk (tables_of over_files it.ran.last) it.ran.left.end_at copied
+                (committed_of it.ran.last honest) (it.ran.left.placed honest) (it.ran.left.kept clean.1) next is,
+            it.ran.worked.answered (honest, clean.1),
+          );
+        };
       }
 
   closed_ended : {result : Result ℕ End} (disk : E) → e.seen disk ≡ start.volume → (it : TookAndRan e task books.conn disk result)
       → (closed : Result (Files D) (Unclosed D g)) → IfOk closed (λ files. AreClean g files.log files.db → IsCopied it.ran.last files)
       → IfOk closed (λ files. AllClean g e files it.ran.last_disk → (next : Pair) → IsNextPair g e files it.ran.last_disk next
-      → LeadsOn in_volume (EndedRun task it.ran.early) start next)
+      → LeadsOn in_volume (WorkRun true task it.ran.early) start next)
   closed_ended disk same it (Ok files) copied = λ clean. ended disk same it files (copied clean.0) clean
   closed_ended disk same it (Err unclosed) copied = tt
 
@@ -100,29 +107,33 @@ module _ {D E : Type 0} {g : Ghosts D} (e : Ghosts E) (task : Task) (start : Pai
   cut : {result : Result ℕ End} (disk : E) → e.seen disk ≡ start.volume → (it : TookAndRan e task books.conn disk result)
       → HasCleanDisk (file_state it.ran.last) → IsTrue (e.is_clean it.ran.last_disk)
       → (next : Pair) → IsLeftPair e it.ran.last it.ran.last_disk next
-      → LeadsOn in_volume (CutRun task it.ran.early) start next
+      → LeadsOn in_volume (WorkRun false task it.ran.early) start next
   cut disk same it clean whole next may = record {
     before = both_tables (placed_side over_files e it.first it.first_disk);
     held = held disk same it honest was.1;
-    told = it.ran.worked.told (honest, was.1) (clean, whole) one;
-    left = λ found holds. ∥∥₁_map (found_among it.ran.last.store again next.image may.image holds.db holds.only) (λ allowed.
-        left found (
-          whole,
-          holds.places,
-          next.volume,
-          (clean, (holds.db.trees, allowed, λ current. holds.current.tables)),
-          may.volume,
-          holds.within.whole,
-        ));
-    there = λ none. ∥∥₁_elim (opens_again it.ran.last.store again.0 again.1 next.image may.image) no_proof (λ db.
-        other.1 (left (over next.volume other.0) (
-          whole,
-          other.0,
-          next.volume,
-          (clean, (db.0, db.1, λ current. absurd (not_these 3 none db.0 (none.only.alone db.0 db.2) current))),
-          may.volume,
-          refl,
-        )));
+    work = record {
+      one_bearer = work.one_bearer;
+      done = work.done;
+      ends = work.ends;
+      is = cut_to in_volume next _ work.done (left_of (placed_side over_files e it.ran.last it.ran.last_disk)) work.is
+          (λ found holds. ∥∥₁_map (found_among it.ran.last.store again next.image may.image holds.db holds.only) (λ allowed. (
+            whole,
+            holds.places,
+            next.volume,
+            (clean, (holds.db.trees, allowed, λ current. holds.current.tables)),
+            may.volume,
+            holds.within.whole,
+          )))
+          (λ none. ∥∥₁_elim (opens_again it.ran.last.store again.0 again.1 next.image may.image) no_proof (λ db.
+          other.1 next.volume (
+            whole,
+            other.0,
+            next.volume,
+            (clean, (db.0, db.1, λ current. absurd (not_these 3 none db.0 (none.only.alone db.0 db.2) current))),
+            may.volume,
+            refl,
+          )));
+    };
   }
     where
       was : BothClean (placed_side over_files e it.first it.first_disk)
@@ -131,24 +142,26 @@ module _ {D E : Type 0} {g : Ghosts D} (e : Ghosts E) (task : Task) (start : Pai
       honest : IsHonest 3 (file_state it.first)
       honest = let books_clean = it.taken.settled.clean was.0 in it.taken.lasts (takes.opened.lasts (begun books_clean) books_clean) was.0
 
-      one : HasOneBearer (both_tables (placed_side over_files e it.first it.first_disk))
-      one = one_bearer (file_state it.first).now honest.index
-
       again : OpensAgain it.ran.last.store
       again = it.ran.again clean
 
-      left : (T : Tables) → left_of (placed_side over_files e it.ran.last it.ran.last_disk) T
-          → TaskMayLeave task it.ran.early (both_tables (placed_side over_files e it.first it.first_disk)) T
-      left = it.ran.worked.crash (honest, was.1) (clean, whole) one
+      work : DoesInPart task it.ran.early (both_tables (placed_side over_files e it.first it.first_disk))
+          (left_of (placed_side over_files e it.ran.last it.ran.last_disk))
+      work = record {
+        one_bearer = one_bearer (file_state it.first).now honest.index;
+        done = it.ran.worked.done;
+        ends = it.ran.worked.ends (honest, was.1) (clean, whole);
+        is = it.ran.worked.went (honest, was.1) (clean, whole);
+      }
 
-      other : (places : Tables)
-          × (¬ TaskMayLeave task it.ran.early (both_tables (placed_side over_files e it.first it.first_disk)) (over next.volume places))
-      other = not_left_over next.volume task it.ran.early (both_tables (placed_side over_files e it.first it.first_disk))
+      other : (T : Tables) × ((volume : List ℕ) → ¬ left_of (placed_side over_files e it.ran.last it.ran.last_disk) (over volume T))
+          × (¬ left_of (placed_side over_files e it.ran.last it.ran.last_disk) T)
+      other = not_left task it.ran.early _ _ work
 
   closed_cut : {result : Result ℕ End} (disk : E) → e.seen disk ≡ start.volume → (it : TookAndRan e task books.conn disk result)
       → (closed : Result (Files D) (Unclosed D g)) → IfErr closed (λ left. IsClosed it.ran.last left.store)
       → IfErr closed (λ left. IsClean (over_files.view left.store) → IsTrue (e.is_clean it.ran.last_disk)
-      → (next : Pair) → IsLeftPair e it.ran.last it.ran.last_disk next → LeadsOn in_volume (CutRun task it.ran.early) start next)
+      → (next : Pair) → IsLeftPair e it.ran.last it.ran.last_disk next → LeadsOn in_volume (WorkRun false task it.ran.early) start next)
   closed_cut disk same it (Ok files) kept = tt
   closed_cut disk same it (Err left) kept = λ clean. cut disk same it (clean_before it.ran.last left.store kept clean)
 

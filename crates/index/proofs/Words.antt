@@ -1,8 +1,8 @@
 -- The names that proofs of this crate take from elsewhere, from one place.
 pub use Rattle.index.specs.Agree.{ClientGot}
 pub use Rattle.index.specs.Causes.{SchemaHasCause, cause_of_calls, cause_of_lengths}
-pub use Rattle.index.specs.Chains.{Carries, ComesByRun, ComesByRuns, CreatedRun, CutRun, EndedRun, InitRun, KeepsSome, LeadTo, LeadsOn}
-pub use Rattle.index.specs.Chains.{MayBecome, MayCarry, Run, UnusedRun}
+pub use Rattle.index.specs.Chains.{Carries, ComesByRun, ComesByRuns, CreatedRun, InitRun, KeepsSome, LeadTo, LeadsOn, Run, UnusedRun}
+pub use Rattle.index.specs.Chains.{WorkRun, leading_to}
 pub use Rattle.index.specs.Ends.{closing_of, end_by, end_of, end_of_error, end_of_fault, end_of_report, end_of_serving, is_fault_end}
 pub use Rattle.index.specs.Ends.{is_store}
 pub use Rattle.index.specs.InVolume.{HoldsPlaced, HoldsPlacedAlone, IsLeftPair, IsNextOf, IsNextPair, Pair, in_volume}
@@ -16,8 +16,9 @@ pub use Rattle.index.specs.Printed.{escaped_char}
 pub use Rattle.index.specs.Refuted.{HoldsNoIndex}
 pub use Rattle.index.specs.Runs.{CrashLeavesOnlyTables, Created, CreatedInLog, Holds, HoldsCurrent, HoldsNone, InitEndsOnFiles, Interrupted}
 pub use Rattle.index.specs.Runs.{IsMadeNew, Ran, RunEndsOnFiles, in_files}
-pub use Rattle.index.specs.Tasks.{AnswerConnections, AnswerLines, AreAmong, CountWrong, Does, IsNoListening, IsServingEnd, Task}
-pub use Rattle.index.specs.Tasks.{TaskMayLeave, TaskTells, WriteReport}
+pub use Rattle.index.specs.Tasks.{AnswerConnections, AnswerLines, AreAmong, CountWrong, Does, DoesInPart, Done, DoneExchanges, DoneLines}
+pub use Rattle.index.specs.Tasks.{DoneLook, IsDone, IsDoneInPart, IsNoListening, IsServingEnd, Task, TaskEnds, WasDone, WasDoneInPart}
+pub use Rattle.index.specs.Tasks.{Works, WriteReport}
 pub use Rattle.index.specs.declared.cause.Cause.{Cause}
 pub use Rattle.index.specs.declared.database.Finished.{Finished}
 pub use Rattle.index.specs.declared.database.Left.{Left}
@@ -27,19 +28,17 @@ pub use Rattle.index.specs.declared.database.Unused.{Unused}
 pub use Rattle.index.specs.declared.end.End.{End}
 pub use Rattle.index.specs.declared.end.End.TheVariants.{Open}
 pub use Rattle.index_args.specs.declared.job.Job.{Job}
-pub use Rattle.index_cli.proofs.Choices.{LeavingTables-choice, LineCallsLeave-choice, LinesEnd-choice}
+pub use Rattle.index_cli.proofs.Choices.{LinesEnd-choice}
 pub use Rattle.index_cli.proofs.FilesServed.{itself}
 pub use Rattle.index_cli.specs.Connections.{AddsReply, Came, ClientTaken, Closed, Exchange, IsUnsent, KnownList, KnownReplies, SentReply}
 pub use Rattle.index_cli.specs.Connections.{StreamFaults, no_faults}
 pub use Rattle.index_cli.specs.Ends.{LinesEnd}
-pub use Rattle.index_cli.specs.LineCalls.{LineCallsLeave}
-pub use Rattle.index_cli.specs.LineFronts.{TextAnswersFront}
 pub use Rattle.index_cli.specs.Lines.{lines_of, longest_line}
 pub use Rattle.index_cli.specs.Telling.{TextAnswersLines, TextAnswersParsedLine}
 pub use Rattle.index_cli.specs.declared.end.LineEnd.{LineEnd}
 pub use Rattle.index_cli.specs.declared.end.ServeEnd.{ServeEnd}
 pub use Rattle.index_desk.specs.ByRules.{StandsAfter}
-pub use Rattle.index_desk.specs.Crashes.{CallsLeave}
+pub use Rattle.index_desk.specs.Crashes.{HasCall}
 pub use Rattle.index_desk.specs.Looks.{LeavesTables}
 pub use Rattle.index_desk.specs.Rules.{Rules, by_history, by_tables}
 pub use Rattle.index_desk.specs.Takes.{Takes}

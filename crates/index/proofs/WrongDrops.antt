@@ -7,6 +7,7 @@ use Rattle.index.proofs.Words.{AreAmong}
 use Rattle.index_http.specs.Replies.{Reply}
 use Rattle.index_http.specs.declared.connection.IoEnd.TheVariants as io_end
 use Rattle.index_cli.specs.Serving.{ExchangeIsAnswered, ExchangesAreAnswered, EndHasCause}
+use Rattle.index.specs.Tasks.{IsDone}
 use Rattle.index.specs.RefutedDrops.{RefutesDrops, RefutesSilence, RefutesUnreplied, nothing_sent}
 
 -- ---- an exchange without a fault
@@ -104,8 +105,9 @@ silent_run input T T' page (exchange ∷ []) one are (between, was, answered) =
 
 refutes_silence : RefutesSilence
 refutes_silence at input found T T' page changed it =
-    let serves = it.tables.2 in
-    changed (silent_run input T T' page serves.exchanges (serves.counted ∙ it.tables.1) serves.are serves.answered)
+    let then = it.is.tables it.one_bearer in
+    let answered = subst (λ done. IsDone by_tables done T then.later) it.ends.is then.is in
+    changed (then.shows ∙ silent_run input T then.later page it.ends.exchanges it.ends.counted it.ends.are answered)
 
 pub refutes_drops : RefutesDrops
 refutes_drops = record { tables = refutes_unreplied by_tables; history = refutes_unreplied by_history; silence = refutes_silence }

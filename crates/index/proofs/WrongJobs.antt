@@ -120,7 +120,7 @@ module _ {D K : Type 0} (g : Ghosts D) (start : Image) (sink : SinkStep K) (stat
       → Ok count ≡ end_by told (closing_of closed) → Counted count
   counted_in count clean (Ok files) (Ok n) ran is =
       let it = ran (clean files.log files.db) in
-      (it.before, it.held, ap (λ (it : Result ℕ End). number_in it) is ∙ it.did.count)
+      (it.before, it.held, ap (λ (it : Result ℕ End). number_in it) is ∙ it.did.ends.count)
   counted_in count clean (Ok files) (Err early) ran is = absurd (is_no_error count early is)
   counted_in count clean (Err unclosed) told ran is = absurd (no_end told unclosed.fault count is)
 
@@ -182,7 +182,7 @@ module _ {D K : Type 0} (g : Ghosts D) (start : Image) (sink : SinkStep K) (stat
       → Ok count ≡ end_by told (closing_of closed) → Reported
   reported_in count clean (Ok files) told ran is =
       let it = ran (clean files.log files.db) in
-      (it.before, it.held, reported_as it.before count it.did.ended (is ∙ it.did.is) it.did.reports)
+      (it.before, it.held, reported_as it.before count it.did.ends.ended (is ∙ it.did.ends.is) it.did.ends.reports)
   reported_in count clean (Err unclosed) told ran is = absurd (no_end told unclosed.fault count is)
 
   reported_by : (count : ℕ) → AreAllClean g → (run : Result (Finished D g) (Unused D g)) → RunEndsOnFiles g TaskHere start run

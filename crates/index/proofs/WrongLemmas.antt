@@ -4,13 +4,15 @@ use Rattle.index.proofs.Words.{inr, List, [], length, arith, IsErrAnd, is_ok, im
 use Rattle.index.proofs.Words.{KnownReplies, LineEnd, ServeEnd, LinesEnd, lines_of, first_tables, Bytes, Tables, Cause, Finished, Unclosed}
 use Rattle.index.proofs.Words.{Unused, End, closing_of, end_by, end_of, end_of_serving, is_store, HoldsNoIndex, IsCleanClosed, IsToldOf}
 use Rattle.index.proofs.Words.{cause_of_files, Created, InitEndsOnFiles, RunEndsOnFiles, HoldsNone, Ran, AreAmong, Does, IsServingEnd, Task}
+use Rattle.index.proofs.Words.{by_history, by_tables, CountWrong, WriteReport, Done, DoneLook, TaskEnds, IsDone, IsDoneInPart, subst}
 use Rattle.std.specs.Prelude.{IfOk, IfErr, if◌then◌else◌}
 use Rattle.index_cli.specs.Ends.{Telling}
 use Rattle.index.specs.declared.end.End.TheVariants as end
-use Rattle.index.specs.Refuted.{RefutesConnections, RefutesInit, RefutesLines, RefutesTasks, RefutesWork}
+use Rattle.index.specs.Refuted.{RefutesInit, RefutesLooked, RefutesTasks, RefutesWork}
 use Rattle.index.specs.Runs.{DigestHas}
 use Rattle.index.proofs.RefutedLemmas.{came_fewer}
 use Rattle.index.proofs.ThereLemmas.{current_is_there}
+use Rattle.index.proofs.WrongWent.{refutes_went}
 
 -- ---- the end of work
 
@@ -60,7 +62,7 @@ module _ {D : Type 0} (g : Ghosts D) where
     ran = λ task told start files none it. current_is_there _ _ it.left.seen none;
     interrupted = λ task told start store none it. none (it.before, it.held);
     ends = λ task told start files emptied it. current_is_there _ _ (it.ran emptied.0).left.seen emptied.1;
-    leads = λ task told start files emptied it. current_is_there _ _ (it.ended emptied.0 (image_of g files) (inl refl)).left emptied.1;
+    leads = λ task told start files emptied it. current_is_there _ _ (it.ended emptied.0 (image_of g files) (inl refl)).work.is.1 emptied.1;
     comes = λ task start count clean none it. no_run task start count clean none it.run it.ends it.done it.refused;
   }
 
@@ -121,14 +123,6 @@ counted_all tells T given left had has count (Ok n) is ends =
     ap (λ (it : Result ℕ End). number_in it) is ∙ ends.counted ∙ ap (λ (input : List ℕ). length (lines_of input)) ends.is_input
 counted_all tells T given left had has count (Err early) is ends = absurd (is_no_error count (end.Lines early) is)
 
-wrong_lines : (given : List ℕ) (left had has : Option (List ℕ)) (T T' : Tables) (count : ℕ) → (¬ (count ≡ length (lines_of given)))
-    → RefutesLines given left had has T T' count
-wrong_lines given left had has T T' count wrong = record {
-  answers = λ it. wrong (counted_all _ _ given left had has count it.ended it.is it.tables);
-  first = λ it. wrong (counted_all _ _ given left had has count it.ended it.is it.tables);
-  leaves = λ it. wrong (counted_all _ _ given left had has count it.ended it.is it.tables);
-}
-
 -- of no connections none was answered
 none_came : (later : KnownList) (replies replies' : KnownReplies) (exchanges : List Exchange)
     → AreAmong (Some []) later replies replies' exchanges → length exchanges ≡ 0
@@ -137,21 +131,16 @@ none_came later replies replies' exchanges it =
     let sum : 0 ≡ length came.0 + length exchanges = came.2 in
     omega (arith, sum)
 
-too_few : (later : KnownList) (replies replies' : KnownReplies) (exchanges : List Exchange) (requests count : ℕ)
-    → AreAmong (Some []) later replies replies' exchanges → length exchanges ≡ count → ¬ (count ≡ suc requests)
-too_few later replies replies' exchanges requests count are counted is =
-    let none = none_came later replies replies' exchanges are in
-    omega (arith, none, counted, is)
-
-wrong_connections : (at : Option ℕ) (requests found : ℕ) (later : KnownList) (replies replies' : KnownReplies) (T T' : Tables)
-    → RefutesConnections at requests found later replies replies' T T'
-wrong_connections at requests found later replies replies' T T' = record {
-  answers = λ it. let serves = it.tables.2 in too_few later replies replies' serves.exchanges requests it.tables.0 serves.are serves.counted
-      it.tables.1;
-  first = λ it. let serves = it.tables.2 in too_few later replies replies' serves.exchanges requests it.tables.0 serves.are serves.counted
-      it.tables.1;
-  leaves = λ it. let serves = it.tables.2 in too_few later replies replies' serves.exchanges requests it.tables.0 serves.are.0
-      serves.counted it.tables.1;
+-- no table was changed
+looked_alike : (task : Task) (told : Result ℕ End) (T T' : Tables) → ((done : Done) → TaskEnds task T told done → done ≡ DoneLook)
+    → (¬ (T' ≡ T)) → RefutesLooked task told T T'
+looked_alike task told T T' looks changed = record {
+  changed = λ it.
+      let after = it.is.tables it.one_bearer in
+      changed (after.shows ∙ subst (λ done. IsDone by_tables done T after.later) (looks it.done it.ends) after.is);
+  left = λ it.
+      let went = subst (λ done. IsDoneInPart by_tables done T (λ left. left ≡ T')) (looks it.done it.ends) (it.is.tables it.one_bearer) in
+      changed (went T' refl);
 }
 
 no_memory : (ended : Result (Unit {0}) ServeEnd) → ¬ (Err end.OutOfMemory ≡ end_of_serving ended)
@@ -165,10 +154,15 @@ no_serving_end (inr it) = no_memory it.0 it.1
 
 pub refutes_tasks : RefutesTasks
 refutes_tasks = record {
-  lines = wrong_lines;
-  connections = wrong_connections;
-  report = λ had has told T T' changed it. changed it.unchanged;
-  check = λ count T T' wrong it. wrong it.count;
-  changes = λ told T T' changed it. changed it.unchanged;
+  lines = λ given left had has T count done wrong it. wrong (counted_all _ T given left had has count it.ended it.is it.told);
+  connections = λ at requests found later replies replies' done it.
+      let none = none_came later replies replies' it.exchanges it.are in
+      let counted : length it.exchanges ≡ suc requests = it.counted in
+      omega (arith, none, counted);
+  report = λ had has told T T' changed. looked_alike (WriteReport had has) told T T' (λ done it. it.looked) changed;
+  check = λ count T done wrong it. wrong it.count;
+  changes = λ told T T' changed. looked_alike CountWrong told T T' (λ done it. it.looked) changed;
+  tables = λ exchange T T'. refutes_went by_tables T T' exchange;
+  history = λ exchange h T'. refutes_went by_history h T' exchange;
   serve = no_serving_end;
 }

@@ -1,15 +1,16 @@
 -- Wrong counts of faults, and wrong answers to lines, do not meet the words of the contracts.
 use Rattle.index.proofs.Words.{◌≡◌, ◌∙◌, ◌+◌, ◌<◌, ℕ, List, [], ◌∷◌, ◌++◌, length, Option, Some, None, Ok, refl, sym, ap, subst, inl, inr}
 use Rattle.index.proofs.Words.{arith, append-nil, length-append, append_cancel_left, LinesEnd, AddsReply, SentReply, StreamFaults, lines_of}
-use Rattle.index.proofs.Words.{longest_line, TextAnswersLines, TextAnswersFront, Rules, by_history, by_tables, answer_text_of}
-use Rattle.index.proofs.Words.{bad_body_text, Store, Bytes, Tables}
+use Rattle.index.proofs.Words.{longest_line, TextAnswersLines, Rules, by_history, by_tables, answer_text_of, bad_body_text, Store, Bytes}
+use Rattle.index.proofs.Words.{Tables, subst₂, ◌⊎◌}
 use Rattle.std.proofs.Common.{◌≢◌}
 use Rattle.std.proofs.lemmas.List.{append_assoc, append_cancel_right}
 use Rattle.std.proofs.lemmas.List.Elements.{All-head, All-tail}
 use Rattle.index_io.specs.Counts.{last_count}
 use Rattle.index_cli.specs.Causes.{LinesReportFaults}
 use Rattle.index_cli.specs.Lines.{Charges, HasNoFeed, PartIsTaken, TakesLine, line_feed}
-use Rattle.index_cli.specs.LineFronts.{TextAnswersToFault}
+use Rattle.index_cli.specs.LinesWent.{Answered, BeginsByFault, LinesMayHaveMade, LinesWent, lines_in, text_by}
+use Rattle.index_cli.specs.Telling.{TextAnswersLine}
 use Rattle.index_rules.specs.declared.answer.Answer.TheVariants as answer
 use Rattle.index.specs.RefutedLines.{RefutesAdded, RefutesCounts, RefutesFaults, RefutesLineCounts, RefutesLongLine, RefutesNumbers}
 use Rattle.index.specs.RefutedLines.{RefutesStoreLine, store_line, with_feed}
@@ -96,24 +97,49 @@ module _ {S : Type 0} (rules : Rules S) (line text : Bytes) (long : longest_line
   long_state : (s s' : S) → TextAnswersLines rules s (line ∷ []) text s' → s' ≡ s
   long_state s s' (first, more, between, one, (none, same), whole) = same ∙ (one.1 long).1
 
-  shut_text : (s : S) → TextAnswersToFault rules s (line ∷ []) text → text ≡ with_feed bad_body_text
-  shut_text s (first, more, between, whole, one, inl later) = absurd later
-  shut_text s (first, more, between, whole, one, inr (fault, none)) = whole_text first more text (one.1 long).0 none whole
+  -- the line went, with the answer to a malformed line, and left the state
+  abbrev IsTold : S → Tables → Type 0
+  IsTold s T = (text ≡ with_feed bad_body_text) × rules.Shows s T
 
-  front_text : (s : S) → TextAnswersFront rules s (line ∷ []) text → text ≡ with_feed bad_body_text
-  front_text s (inl told) = long_text s told.0 told.1
-  front_text s (inr shut) = shut_text s shut
+  went_lines : (s : S) (T : Tables) (earlier : List Bytes) (told : Bytes) (later : Answered) (reached : S)
+      → line ∷ [] ≡ earlier ++ lines_in later → text ≡ told ++ text_by later → TextAnswersLines rules s earlier told reached
+      → (later ≡ []) ⊎ BeginsByFault rules later reached → rules.Shows reached T ⊎ LinesMayHaveMade rules later reached T → IsTold s T
+  went_lines s T [] told [] reached is whole answered shut left = absurd (cc is)
+  went_lines s T (one ∷ []) told [] reached is whole answered shut left =
+      let first : one ≡ line = cc in
+      let all = subst₂ (λ it told. TextAnswersLines rules s (it ∷ []) told reached) first (sym (append-nil told) ∙ sym whole) answered in (
+        long_text s reached all,
+        elim left [ inl shows ↦ subst (λ it. rules.Shows it T) (long_state s reached all) shows | inr made ↦ absurd made ],
+      )
+  went_lines s T (one ∷ other ∷ earlier) told [] reached is whole answered shut left =
+      let rest : [] ≡ other ∷ (earlier ++ []) = cc in absurd (cc rest)
+  went_lines s T earlier told (one ∷ later) reached is whole answered (inl none) left = absurd (cc none)
+  went_lines s T [] told ((one, reply) ∷ []) reached is whole answered (inr begins) left =
+      let first : one ≡ line = cc in
+      let answer = subst (λ it. TextAnswersLine rules it reached reply begins.0) first begins.1 in (
+        whole_text reply [] text (answer.1 long).0 refl (whole ∙ ap (λ it. it ++ text_by ((one, reply) ∷ [])) answered.0),
+        elim left [
+          | inl shows ↦ subst (λ it. rules.Shows it T) answered.1 shows
+          | inr (inl made) ↦ absurd (made.1 (subst (λ it. longest_line < length it) (sym first) long))
+          | inr (inr made) ↦ absurd made
+        ],
+      )
+  went_lines s T [] told ((one, reply) ∷ (other, more) ∷ later) reached is whole answered (inr begins) left =
+      let rest : [] ≡ other ∷ lines_in later = cc in absurd (cc rest)
+  went_lines s T (before ∷ earlier) told ((one, reply) ∷ later) reached is whole answered (inr begins) left =
+      let rest : [] ≡ earlier ++ one ∷ lines_in later = cc in
+      absurd (let size = ap length rest in let sum = length-append earlier (one ∷ lines_in later) in omega (arith, size, sum))
 
-pub refutes_long_line : (line text : Bytes) → longest_line < length line → RefutesLongLine line text
-refutes_long_line line text long = record {
-  tables = λ T T' other it. other (long_text by_tables line text long T T' it);
-  history = λ h T' other it. other (long_text by_history line text long h it.later it.is);
-  front = λ T T' other it. other (front_text by_tables line text long T it);
-  past = λ h T' other it. other (front_text by_history line text long h it);
-  changed = λ T T' changed it. changed (long_state by_tables line text long T T' it);
-  crash = λ T T' none it. none (it.3.1 long).1;
-  crash_history = λ h T' none it. none (it.3.1 long).1;
-}
+  pub refutes_long_line : RefutesLongLine rules line text
+  refutes_long_line = record {
+    told = λ s s' other it. other (long_text s s' it);
+    front = λ s T other it. other (went s T it).0;
+    changed = λ s s' changed it. changed (long_state s s' it);
+    crash = λ s T none it. none (went s T it).1;
+  }
+    where
+      went : (s : S) (T : Tables) → LinesWent rules (line ∷ []) text s (λ left. left ≡ T) → IsTold s T
+      went s T it = went_lines s T it.earlier it.told it.later it.reached it.all it.whole it.answered it.shut (it.crash T refl)
 
 -- ---- numbers
 
@@ -207,7 +233,8 @@ refutes_line_counts = record {
   counts = refutes_counts;
   faults = refutes_faults;
   store = refutes_store_line;
-  long = refutes_long_line;
+  long = refutes_long_line by_tables;
+  long_past = refutes_long_line by_history;
   numbers = refutes_numbers;
   added = refutes_added;
 }

@@ -1,6 +1,6 @@
 -- The clients of any runs are sent the same bytes for one file name.
-use Rattle.std.specs.Prelude.{Contains, List, None, Ok, Option, Result, Some, [], false, length, ℕ}
-use Rattle.std.specs.Prelude.{◌++◌, ◌∷◌, ◌≡◌}
+use Rattle.std.specs.Prelude.{Contains, List, None, Ok, Option, Result, Some, [], false, length}
+use Rattle.std.specs.Prelude.{true, ℕ, ◌++◌, ◌∷◌, ◌≡◌}
 use Rattle.index_digest.specs.Digest.{sha256}
 use Rattle.index_http.specs.Replies.{file_reply, reply_text}
 use Rattle.index_message.specs.Fields.{Field}
@@ -10,7 +10,7 @@ use Rattle.index_rules.specs.Maps.{Bytes}
 use Rattle.index_cli.specs.Connections.{Exchange, KnownList, KnownReplies, SentReply, no_faults}
 use Rattle.index_cli.specs.FilesServed.{GotFile, IsAmong, get_of_file}
 use Rattle.index.specs.declared.end.End.{End}
-use Rattle.index.specs.Chains.{EndedRun, LeadTo, Run}
+use Rattle.index.specs.Chains.{LeadTo, Run, WorkRun}
 use Rattle.index.specs.Keeping.{FindsNone, Keeping}
 use Rattle.index.specs.Tasks.{AnswerConnections, AreAmong}
 
@@ -24,7 +24,7 @@ pub record ClientGot (run : Run) (file bytes : Bytes) : Type 0 where
   pub had : List SentReply
   pub has : KnownReplies
   pub result : Result ℕ End
-  pub is : run ≡ EndedRun
+  pub is : run ≡ WorkRun true
       (AnswerConnections at requests (Some inputs) later (Some had) has) result
   pub exchanges : List Exchange
   pub are : AreAmong (Some inputs) later (Some had) has exchanges
@@ -52,7 +52,7 @@ file_sent bytes = record { bytes = reply_text false (file_reply bytes); faults =
 
 -- a run with one client, who sent this input and was sent these bytes
 abbrev pub run_of_client : Bytes → Bytes → Run
-run_of_client input bytes = EndedRun
+run_of_client input bytes = WorkRun true
     (AnswerConnections None 1 (Some (input ∷ [])) (Some []) (Some [])
     (Some (file_sent bytes ∷ []))) (Ok 0)
 

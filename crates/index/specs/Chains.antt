@@ -1,6 +1,7 @@
 -- Runs of the program, each on the files that the one before left, and the one history that they
 -- carry on, however an index is kept.
-use Rattle.std.specs.Prelude.{◌≡◌, ◌⊎◌, ℕ, List, [], ◌∷◌, Result, IfOk, IfErr, IfSome}
+use Rattle.std.specs.Prelude.{◌≡◌, ◌⊎◌, ℕ, Bool, true, false, List, [], ◌∷◌, Result}
+use Rattle.std.specs.Prelude.{IfErr, IfOk, IfSome}
 use Rattle.sqlite.specs.declared.FileStore.{FileStore}
 use Rattle.sqlite.specs.declared.file.Leftover.{Leftover}
 use Rattle.sqlite.specs.declared.file.Leftover.TheVariants as leftover
@@ -15,17 +16,9 @@ use Rattle.sqlite_trees.specs.View.{IsClean}
 use Rattle.sqlite_disk.specs.declared.Disk.{Ghosts}
 use Rattle.sqlite_disk.specs.declared.Files.{Files}
 use Rattle.index_tables.specs.Reopened.{MayLeave}
-use Rattle.index_cli.specs.declared.end.LineEnd.{LineEnd}
-use Rattle.index_cli.specs.Ends.{LinesEnd}
-use Rattle.index_cli.specs.ServesFront.{LeavingTables, ServesFirst}
-use Rattle.index_cli.specs.Serving.{Serves}
-use Rattle.index_cli.specs.Telling.{TextAnswersLines}
-use Rattle.index_cli.specs.LineCalls.{LineCallsLeave}
-use Rattle.index_cli.specs.LineFronts.{TextAnswersFront}
-use Rattle.index_desk.specs.Crashes.{CallsLeave}
-use Rattle.index_desk.specs.Rules.{by_history}
-use Rattle.index_rules.specs.declared.answer.Answer.{Answer}
-use Rattle.index_rules.specs.declared.call.Call.{Call}
+use Rattle.index_cli.specs.LinesWent.{LinesMayHaveMade, LinesWent}
+use Rattle.index_cli.specs.Went.{MayHaveMade, Went}
+use Rattle.index_desk.specs.Rules.{Rules, by_history}
 use Rattle.index_rules.specs.FirstTables.{first_tables}
 use Rattle.index_rules.specs.History.{History, begins}
 use Rattle.index_rules.specs.Legal.{IsLegal}
@@ -38,12 +31,11 @@ use Rattle.index.specs.declared.database.Left.TheVariants as unused
 use Rattle.index.specs.declared.database.Unclosed.{Unclosed}
 use Rattle.index.specs.declared.database.Unused.{Unused}
 use Rattle.index.specs.declared.end.End.{End}
-use Rattle.index.specs.Ends.{end_of}
 use Rattle.index.specs.Keeping.{FindsNone, FindsOnly, Keeping}
 use Rattle.index.specs.Openings.{OpensAgain}
 use Rattle.index.specs.Runs.{in_files}
-use Rattle.index.specs.Tasks.{AnswerConnections, AnswerLines, AreAmong, CountWrong, Does, IsUpTo}
-use Rattle.index.specs.Tasks.{Task, TaskMayLeave, TaskTells, WriteReport}
+use Rattle.index.specs.Tasks.{Did, Done, DoneExchanges, DoneLines, DoneLook, IsDone, Task}
+use Rattle.index.specs.Tasks.{WasDone, WasDoneInPart}
 
 -- ---- one run, from the files that it finds to those that the next one finds
 
@@ -53,31 +45,28 @@ pub data Run : Type 0 where
   CreatedRun : (user token : Bytes) → Run
   -- an init that was killed, or failed
   InitRun : (user token : Bytes) → Run
-  -- a run that did its task, ended with this result and closed its files
-  EndedRun : Task → Result ℕ End → Run
-  -- a run that was killed, or whose files a failed disk had shut, with its task and result
-  CutRun : Task → Result ℕ End → Run
+  -- a run that did a task on the index, with its result, and whether it closed its files. One that
+  -- did not was killed, or a failed disk had shut them.
+  WorkRun : (closed : Bool) → Task → Result ℕ End → Run
   -- a run that did nothing on the index
   UnusedRun : Run
 
--- the task was done on the index in the files, and the files have its result
-pub record EndedRunLeadsOn {X : Type 0} (k : Keeping X)
-    (task : Task) (result : Result ℕ End) (start next : X) : Type 0 where
-  pub before : Tables
-  pub after : Tables
-  pub held : k.Holds start before
-  pub did : Does task result before after
-  pub left : k.HoldsCurrent next after
+-- Work on an index with these tables did this. If its files were closed, all was done, and the next
+-- ones have its result. Else a part may have been, and any index in the next files is one that it
+-- may leave.
+abbrev pub WorkLeadsTo : {X : Type 0} → Keeping X → (closed : Bool) → X → Tables → Done → Type 0
+WorkLeadsTo k true next before done =
+    (after : Tables) × k.HoldsCurrent next after × WasDone before after done
+WorkLeadsTo k false next before done =
+    (¬ k.HoldsNone next) × WasDoneInPart before (λ found. ⊥) done
+    × FindsOnly k next (λ found. WasDoneInPart before (λ T. T ≡ found) done)
 
--- The task was begun on the index in the files, and reported this. Any index in the next files is
--- one that the task may leave.
-pub record CutRunLeadsOn {X : Type 0} (k : Keeping X)
-    (task : Task) (result : Result ℕ End) (start next : X) : Type 0 where
+-- a task was begun on the index in the files
+pub record WorkRunLeadsOn {X : Type 0} (k : Keeping X) (closed : Bool) (task : Task)
+    (result : Result ℕ End) (start next : X) : Type 0 where
   pub before : Tables
   pub held : k.Holds start before
-  pub told : TaskTells task result before
-  pub left : FindsOnly k next (TaskMayLeave task result before)
-  pub there : ¬ k.HoldsNone next
+  pub work : Did task result before (WorkLeadsTo k closed next before)
 
 -- if the files held some part of an index, the next ones do
 abbrev pub KeepsSome : {X : Type 0} → Keeping X → X → X → Type 0
@@ -93,8 +82,8 @@ LeadsOn k (InitRun user token) start next =
     KeepsSome k start next
     × FindsOnly k next (λ found.
     k.Holds start found ⊎ (k.HoldsNone start × (found ≡ first_tables user token)))
-LeadsOn k (EndedRun task result) start next = EndedRunLeadsOn k task result start next
-LeadsOn k (CutRun task result) start next = CutRunLeadsOn k task result start next
+LeadsOn k (WorkRun closed task result) start next =
+    WorkRunLeadsOn k closed task result start next
 LeadsOn k UnusedRun start next = KeepsSome k start next × FindsOnly k next (k.Holds start)
 
 -- runs lead one after the other from these files to the last ones
@@ -140,9 +129,10 @@ module _ {D : Type 0} {g : Ghosts D} where
 -- the next files after a run of work, by its task
 pub record WorkLeadsOn {D : Type 0} (g : Ghosts D) (task : Task) (start : Image)
     (result : Result (Finished D g) (Unused D g)) : Type 0 where
-  pub ended : IfOk result (λ run. IfOk run.closed (ClosedLeadsOn g (EndedRun task run.end) start))
+  pub ended : IfOk result (λ run. IfOk run.closed
+      (ClosedLeadsOn g (WorkRun true task run.end) start))
   pub cut : IfOk result (λ run. IfErr run.closed (λ it.
-      UnclosedLeadsOn (CutRun task run.end) start it.store))
+      UnclosedLeadsOn (WorkRun false task run.end) start it.store))
   pub unused : IfErr result (λ it. IfSome it.left (UnusedLeadsOn UnusedRun start))
 
 -- the next files after an init, by its user and the digest of the token
@@ -155,46 +145,22 @@ pub record InitLeadsOn {D : Type 0} (g : Ghosts D) (user token : Bytes) (start :
 
 -- ---- the history that the runs carry on
 
--- calls in a row may leave this history of another: with the accepted calls, or with these and one
--- call that was answered with a fault after the last of them
-abbrev pub MayBecome : History → History → List Call → List Answer → Tables → Type 0
-MayBecome h h' = CallsLeave (record by_history { Shows = λ left T'. left ≡ h' }) h
+-- the rules over histories, but by which any tables show this history, and no other
+abbrev pub leading_to : History → Rules History
+leading_to h' = record by_history { Shows = λ h T. h ≡ h' }
 
--- a task carried a history on to this one, with the accepted calls in order
-abbrev pub Carries : Task → Result ℕ End → History → History → Tables → Type 0
-Carries (AnswerLines given left had has) result h h' T' =
-    (ended : Result ℕ LineEnd) × (result ≡ end_of ended)
-    × LinesEnd (λ lines text T. TextAnswersLines by_history h lines text h') T' given left had has
-    ended
-Carries (AnswerConnections at requests coming coming' replies replies') result h h' T' =
-    (count : ℕ) × IsUpTo requests result count
-    × Serves (AreAmong coming coming' replies replies') by_history at count h h'
-Carries (WriteReport had has) result h h' T' = h' ≡ h
-Carries CountWrong result h h' T' = h' ≡ h
-
--- a task that was cut short may have carried a history on to this one, with the accepted calls or
--- one more
-abbrev pub MayCarry : Task → Result ℕ End → History → History → Tables → Type 0
-MayCarry (AnswerLines given left had has) result h h' T' =
-    (ended : Result ℕ LineEnd) × (result ≡ end_of ended)
-    × LinesEnd (LineCallsLeave (MayBecome h h')) T' given left had has ended
-MayCarry (AnswerConnections at requests coming coming' replies replies') result h h' T' =
-    (count : ℕ) × IsUpTo requests result count
-    × ServesFirst (LeavingTables (AreAmong coming coming' replies replies') (MayBecome h h') T')
-    by_history at count h
-MayCarry (WriteReport had has) result h h' T' = h' ≡ h
-MayCarry CountWrong result h h' T' = h' ≡ h
-
--- A task answered by a history, up to a fault. No call was accepted after that.
-abbrev pub TaskTellsByHistory : Task → Result ℕ End → History → Tables → Type 0
-TaskTellsByHistory (AnswerLines given left had has) result h T =
-    (ended : Result ℕ LineEnd) × (result ≡ end_of ended)
-    × LinesEnd (λ lines text T. TextAnswersFront by_history h lines text) T given left had has ended
-TaskTellsByHistory (AnswerConnections at requests coming coming' replies replies') result h T =
-    (count : ℕ) × IsUpTo requests result count
-    × ServesFirst (AreAmong coming coming' replies replies') by_history at count h
-TaskTellsByHistory (WriteReport had has) result h T = Unit {0}
-TaskTellsByHistory CountWrong result h T = Unit {0}
+-- What a run did carried a history on to this one, for which the tables that it left stand. If its
+-- files were closed, all was done. Else a part may have been: then this is the history that it
+-- reached, or that one with one call more.
+abbrev pub Carries : (closed : Bool) → Done → History → History → Tables → Type 0
+Carries true done h h' T = IsDone by_history done h h'
+Carries false (DoneLines lines text) h h' T =
+    (went : LinesWent by_history lines text h (λ left. left ≡ T))
+    × ((went.reached ≡ h') ⊎ LinesMayHaveMade (leading_to h') went.later went.reached T)
+Carries false (DoneExchanges exchanges) h h' T =
+    (went : Went by_history exchanges h (λ left. left ≡ T))
+    × ((went.reached ≡ h') ⊎ MayHaveMade (leading_to h') went.later went.reached T)
+Carries false DoneLook h h' T = h' ≡ h
 
 -- A run made this history of one for which `Was` holds, or left that as it was. The tables before
 -- the run stand for the old one, and those after it for this one.
@@ -203,12 +169,10 @@ abbrev pub ComesByRun : {X : Type 0} (k : Keeping X) (run : Run) (start next : X
 ComesByRun k (CreatedRun user token) start next it Was h' = h' ≡ begins user token
 ComesByRun k (InitRun user token) start next it Was h' =
     Was h' ⊎ (k.HoldsNone start × (h' ≡ begins user token))
-ComesByRun k (EndedRun task result) start next it Was h' =
+ComesByRun k (WorkRun closed task result) start next it Was h' =
     (h : History) × Was h × StandsFor it.before h
-    × StandsFor it.after h' × Carries task result h h' it.after
-ComesByRun k (CutRun task result) start next it Was h' =
-    (h : History) × Was h × StandsFor it.before h × TaskTellsByHistory task result h it.before
-    × ((left : Tables) × StandsFor left h' × MayCarry task result h h' left)
+    × ((left : Tables) × k.Holds next left × StandsFor left h'
+    × Carries closed it.work.done h h' left)
 ComesByRun k UnusedRun start next it Was h' = Was h'
 
 -- runs made this history one after the other, as in `ComesByRun`, and each history is legal

@@ -21,10 +21,8 @@ use Rattle.index_args.specs.declared.job.Job.{Job}
 use Rattle.index_digest.specs.Digest.{read_digest}
 use Rattle.index_http.specs.Steps.{SinkStep}
 use Rattle.index_rules.specs.declared.open.OpenFault.TheVariants as open_fault
-use Rattle.index_rules.specs.Facts.{HasOneBearer}
 use Rattle.index_rules.specs.FirstTables.{first_tables}
 use Rattle.index_rules.specs.Maps.{Bytes}
-use Rattle.index_rules.specs.Tables.{Tables}
 use Rattle.index_sql_opening.specs.Names.{has_any_of}
 use Rattle.index_sql_reads.specs.ConnectionTables.{tables_of}
 use Rattle.index_sql_schema.specs.Schema.{index_schema}
@@ -42,7 +40,7 @@ use Rattle.index.specs.declared.database.Unclosed.{Unclosed}
 use Rattle.index.specs.declared.failed_opening.FailedOpening.{FailedOpening}
 use Rattle.index.specs.declared.end.End.{End}
 use Rattle.index.specs.declared.end.End.TheVariants as end
-use Rattle.index.specs.Chains.{CreatedRun, CutRun, EndedRun, LeadsOn}
+use Rattle.index.specs.Chains.{CreatedRun, LeadsOn, WorkRun}
 use Rattle.index.specs.Ends.{closing_of, end_by, is_fault_end, is_store}
 use Rattle.index.specs.InVolume.{AllClean, IsLeftPair, IsNextPair, IsNextOf, Pair, in_volume}
 use Rattle.index.specs.InVolume.{pair_of}
@@ -51,7 +49,7 @@ use Rattle.index.specs.Openings.{HasSumsAs, HoldsOnly, IsBadFirstUserByHex, IsOp
 use Rattle.index.specs.Openings.{IsUnfound, IsWhyUnfound, IsWhyUnused, OpeningEnds, OpensAgain}
 use Rattle.index.specs.Openings.{UnusedLeaves}
 use Rattle.index.specs.SecondLines.{volume_of_job}
-use Rattle.index.specs.Tasks.{Does, TaskMayLeave, Task, TaskTells}
+use Rattle.index.specs.Tasks.{Done, Task, TaskEnds, WasDone, WasDoneInPart}
 
 -- ---- the connection and the volume
 
@@ -70,12 +68,10 @@ placed_side g e conn disk = record {
 -- Work was done at a desk over these tables, with the bytes of the volume for their places: the
 -- clauses of each kind of work, as over any books.
 pub record WorksOver (task : Task) (result : Result ℕ End) (old new : Side) : Type 0 where
-  pub done : BothHonest new → HasOneBearer (both_tables old)
-      → Does task result (both_tables old) (both_tables new)
-  pub told : BothHonest old → BothClean new → HasOneBearer (both_tables old)
-      → TaskTells task result (both_tables old)
-  pub crash : BothHonest old → BothClean new → HasOneBearer (both_tables old)
-      → (T : Tables) → left_of new T → TaskMayLeave task result (both_tables old) T
+  pub done : Done
+  pub ends : BothHonest old → BothClean new → TaskEnds task (both_tables old) result done
+  pub answered : BothHonest new → WasDone (both_tables old) (both_tables new) done
+  pub went : BothHonest old → BothClean new → WasDoneInPart (both_tables old) (left_of new) done
   pub honest : BothHonest new → BothHonest old
   pub clean : BothClean new → BothClean old
 
@@ -158,11 +154,11 @@ pub record RanLeadsOn {D E : Type 0} {g : Ghosts D} (e : Ghosts E) (task : Task)
     (ran : RanOver e task first first_disk result) : Type 0 where
   pub ended : IfOk ran.closed (λ files. AllClean g e files ran.last_disk
       → (next : Pair) → IsNextPair g e files ran.last_disk next
-      → LeadsOn in_volume (EndedRun task ran.early) start next)
+      → LeadsOn in_volume (WorkRun true task ran.early) start next)
   pub cut : IfErr ran.closed (λ it. IsClean (over_files.view it.store)
       → IsTrue (e.is_clean ran.last_disk)
       → (next : Pair) → IsLeftPair e ran.last ran.last_disk next
-      → LeadsOn in_volume (CutRun task ran.early) start next)
+      → LeadsOn in_volume (WorkRun false task ran.early) start next)
 
 -- The next run finds what work left, if it was done.
 abbrev pub LeavesToNext : {D E : Type 0} {g : Ghosts D} (e : Ghosts E) (task : Task) (start : Pair)

@@ -1,6 +1,7 @@
 -- Wrong outcomes that the contracts exclude: a program that did nothing, or the wrong thing, could
 -- not be proved.
-use Rattle.std.specs.Prelude.{◌≡◌, ◌⊎◌, ℕ, suc, Bool, true, false, List, [], length, Option, Some}
+use Rattle.std.specs.Prelude.{◌≡◌, ◌⊎◌, ℕ, suc, Bool, true, false, List, [], ◌∷◌, length}
+use Rattle.std.specs.Prelude.{Option, Some}
 use Rattle.std.specs.Prelude.{Result, Ok, Err, IsTrue, nat_le}
 use Rattle.sqlite.specs.declared.file.Leftover.{Leftover}
 use Rattle.sqlite.specs.declared.file.Leftover.TheVariants as leftover
@@ -14,9 +15,13 @@ use Rattle.sqlite.specs.WalFiles.{outcomes}
 use Rattle.sqlite.specs.WalReads.{AreClean}
 use Rattle.sqlite_disk.specs.declared.Disk.{Ghosts}
 use Rattle.sqlite_disk.specs.declared.Files.{Files}
-use Rattle.index_cli.specs.Connections.{KnownList, KnownReplies}
+use Rattle.index_cli.specs.Connections.{Exchange, KnownList, KnownReplies}
 use Rattle.index_cli.specs.Lines.{lines_of}
+use Rattle.index_cli.specs.Serving.{ExchangeIsAnswered}
+use Rattle.index_cli.specs.Went.{AcceptsNothing, MayHaveMade, Went}
 use Rattle.index_desk.specs.Checks.{wrong_charges_in}
+use Rattle.index_desk.specs.Rules.{Rules, by_history, by_tables}
+use Rattle.index_rules.specs.History.{History}
 use Rattle.index_rules.specs.Maps.{Bytes}
 use Rattle.index_rules.specs.Tables.{Tables}
 use Rattle.index.specs.declared.cause.Cause.{Cause}
@@ -31,10 +36,8 @@ use Rattle.index.specs.Openings.{HoldsSome, OpeningEnds, cause_of_files}
 use Rattle.index.specs.Keeping.{FindsNone}
 use Rattle.index.specs.Runs.{Created, CreatedInLog, HoldsNone, InitEndsOnFiles, in_files}
 use Rattle.index.specs.Runs.{Interrupted, Ran, RunEndsOnFiles}
-use Rattle.index.specs.Tasks.{AnswersConnections, AnswersFirstConnections, AnswersFirstLines}
-use Rattle.index.specs.Tasks.{AnswersLines, AreAmong, CountsWrong, Does, IsServingEnd}
-use Rattle.index.specs.Tasks.{LeavesConnections, LeavesLines, TaskMayLeave, Task, TaskTells}
-use Rattle.index.specs.Tasks.{WritesReport}
+use Rattle.index.specs.Tasks.{AnswersConnections, AnswersLines, AreAmong, CountWrong, CountsWrong}
+use Rattle.index.specs.Tasks.{Does, DoesInPart, Done, IsServingEnd, Task, WriteReport}
 
 -- ---- outcomes of files
 
@@ -52,7 +55,7 @@ pub record RefutesWork {D : Type 0} (g : Ghosts D) : Type 0 where
       → HoldsNone (image_of g files) → ¬ Ran g (Does task told) start files
   pub interrupted : (task : Task) (told : Result ℕ End) (start : Image) (store : FileStore D g)
       → HoldsNoIndex start
-      → ¬ Interrupted (TaskTells task told) (TaskMayLeave task told) start store
+      → ¬ Interrupted (DoesInPart task told) start store
   pub ends : (task : Task) (told : Result ℕ End) (start : Image) (files : Files D)
       → AreEmptied g files
       → ¬ RunEndsOnFiles g task start (Ok (record { closed = Ok files; end = told }))
@@ -115,36 +118,49 @@ pub record RefutesOpening {D : Type 0} (g : Ghosts D) : Type 0 where
 
 -- ---- outcomes of tasks
 
--- lines are not answered if some lines of the input were not counted
-pub record RefutesLines (given : List ℕ) (left had has : Option (List ℕ)) (T T' : Tables)
-    (count : ℕ) : Type 0 where
-  pub answers : ¬ AnswersLines (Some given) left had has T T' (Ok count)
-  pub first : ¬ AnswersFirstLines (Some given) left had has T (Ok count)
-  pub leaves : ¬ LeavesLines (Some given) left had has T T' (Ok count)
+-- no connections went in one of these wrong ways, by rules, from a state to tables after a crash
+pub record RefutesWent {S : Type 0} (rules : Rules S) (exchange : Exchange) (s : S) (T : Tables)
+    : Type 0 where
+  -- the tables are others, though nobody came
+  pub made : (¬ rules.Shows s T) → ¬ Went rules [] s (λ left. left ≡ T)
+  -- the reply is of no state that the rules make of this one: not that of another history either
+  pub told : ((s' : S) → ¬ ExchangeIsAnswered rules exchange s s')
+      → ¬ Went rules (exchange ∷ []) s (λ left. left ≡ T)
+  -- an accepted call is lost, whether before a fault or after one
+  pub lost : (¬ AcceptsNothing exchange)
+      → ((s' : S) → ExchangeIsAnswered rules exchange s s' → ¬ rules.Shows s' T)
+      → ¬ Went rules (exchange ∷ []) s (λ left. left ≡ T)
+  -- the tables have another call, or one call more than the one that was answered by a fault
+  pub twice : (¬ MayHaveMade rules (exchange ∷ []) s T) → (¬ rules.Shows s T)
+      → ((s' : S) → ExchangeIsAnswered rules exchange s s' → ¬ rules.Shows s' T)
+      → ¬ Went rules (exchange ∷ []) s (λ left. left ≡ T)
 
--- if no connection came, a serve of one or more does not succeed
-pub record RefutesConnections (at : Option ℕ) (requests found : ℕ)
-    (later : KnownList) (replies replies' : KnownReplies) (T T' : Tables) : Type 0 where
-  pub answers : ¬ AnswersConnections (AreAmong (Some []) later replies replies') at (suc requests)
-      T T' (Ok found)
-  pub first : ¬ AnswersFirstConnections (AreAmong (Some []) later replies replies') at
-      (suc requests) T (Ok found)
-  pub leaves : ¬ LeavesConnections (AreAmong (Some []) later replies replies') at (suc requests)
-      T T' (Ok found)
+-- no task that only looks at the tables changes one, or leaves others after a crash
+pub record RefutesLooked (task : Task) (told : Result ℕ End) (T T' : Tables) : Type 0 where
+  pub changed : ¬ Does task told T T'
+  pub left : ¬ DoesInPart task told T (λ left. left ≡ T')
 
 -- the wrong outcomes of each kind of work
 pub record RefutesTasks : Type 0 where
-  pub lines : (given : List ℕ) (left had has : Option (List ℕ)) (T T' : Tables) (count : ℕ)
-      → (¬ (count ≡ length (lines_of given))) → RefutesLines given left had has T T' count
+  -- some lines of the input were not counted
+  pub lines : (given : List ℕ) (left had has : Option (List ℕ)) (T : Tables) (count : ℕ)
+      (done : Done) → (¬ (count ≡ length (lines_of given)))
+      → ¬ AnswersLines (Some given) left had has T (Ok count) done
+  -- no connection came, but a serve of one or more succeeded
   pub connections : (at : Option ℕ) (requests found : ℕ) (later : KnownList)
-      (replies replies' : KnownReplies) (T T' : Tables)
-      → RefutesConnections at requests found later replies replies' T T'
+      (replies replies' : KnownReplies) (done : Done)
+      → ¬ AnswersConnections (AreAmong (Some []) later replies replies') at (suc requests)
+      (Ok found) done
   -- a report and a check change no table, and the number of a check is that of the wrong charges
   pub report : (had has : Option (List ℕ)) (told : Result ℕ End) (T T' : Tables)
-      → (¬ (T' ≡ T)) → ¬ WritesReport had has T T' told
-  pub check : (count : ℕ) (T T' : Tables)
-      → (¬ (count ≡ wrong_charges_in T)) → ¬ CountsWrong T T' (Ok count)
+      → (¬ (T' ≡ T)) → RefutesLooked (WriteReport had has) told T T'
+  pub check : (count : ℕ) (T : Tables) (done : Done)
+      → (¬ (count ≡ wrong_charges_in T)) → ¬ CountsWrong T (Ok count) done
   pub changes : (told : Result ℕ End) (T T' : Tables)
-      → (¬ (T' ≡ T)) → ¬ CountsWrong T T' told
+      → (¬ (T' ≡ T)) → RefutesLooked CountWrong told T T'
+  -- wrong replies, and wrong tables after a crash, by the tables and by a history
+  pub tables : (exchange : Exchange) (T T' : Tables) → RefutesWent by_tables exchange T T'
+  pub history : (exchange : Exchange) (h : History) (T' : Tables)
+      → RefutesWent by_history exchange h T'
   -- no serve ends as only another kind of work does
   pub serve : ¬ IsServingEnd (Err end.OutOfMemory)

@@ -9,16 +9,12 @@ use Rattle.index_cli.specs.Lines.{Charges, PartIsTaken, TakesLine, line_feed, li
 use Rattle.index_cli.specs.Lines.{longest_line}
 use Rattle.index_cli.specs.Serving.{IsCount}
 use Rattle.index_cli.specs.Telling.{TextAnswersLines}
-use Rattle.index_cli.specs.LineCalls.{LineCallsLeave}
-use Rattle.index_cli.specs.LineFronts.{TextAnswersFront}
-use Rattle.index_desk.specs.ByRules.{StandsAfter}
+use Rattle.index_cli.specs.LinesWent.{LinesWent}
 use Rattle.index_cli.specs.declared.end.ServeEnd.{ServeEnd}
-use Rattle.index_desk.specs.Crashes.{CallsLeave}
-use Rattle.index_desk.specs.Rules.{by_history, by_tables}
+use Rattle.index_desk.specs.Rules.{Rules, by_history, by_tables}
 use Rattle.index_json.specs.AnswerText.{answer_text_of, bad_body_text}
 use Rattle.index_rules.specs.declared.answer.Answer.TheVariants as answer
 use Rattle.index_rules.specs.declared.answer.Fault.TheVariants.{Store}
-use Rattle.index_rules.specs.History.{History}
 use Rattle.index_rules.specs.Maps.{Bytes}
 use Rattle.index_rules.specs.Tables.{Tables}
 
@@ -69,26 +65,16 @@ pub record RefutesStoreLine (T : Tables) (given line had : Bytes) (left : Option
 abbrev pub IsOtherText : Bytes → Type 0
 IsOtherText text = ¬ (text ≡ with_feed bad_body_text)
 
--- no line that is too long gets another answer than a malformed one, or changes a table
-pub record RefutesLongLine (line text : Bytes) : Type 0 where
-  -- another answer by the tables
-  pub tables : (T T' : Tables) → IsOtherText text
-      → ¬ TextAnswersLines by_tables T (line ∷ []) text T'
-  -- another answer by a history
-  pub history : (h : History) (T' : Tables) → IsOtherText text
-      → ¬ StandsAfter by_history (TextAnswersLines by_history h (line ∷ []) text) T'
-  -- another answer up to a fault
-  pub front : (T T' : Tables) → IsOtherText text
-      → ¬ TextAnswersFront by_tables T (line ∷ []) text
-  pub past : (h : History) (T' : Tables) → IsOtherText text
-      → ¬ TextAnswersFront by_history h (line ∷ []) text
-  -- a table changed
-  pub changed : (T T' : Tables) → (¬ (T' ≡ T)) → ¬ TextAnswersLines by_tables T (line ∷ []) text T'
-  -- a crash leaves tables that it can't leave without a call
-  pub crash : (T T' : Tables) → (¬ CallsLeave by_tables T [] [] T')
-      → ¬ LineCallsLeave (CallsLeave by_tables T) (line ∷ []) text T'
-  pub crash_history : (h : History) (T' : Tables) → (¬ CallsLeave by_history h [] [] T')
-      → ¬ LineCallsLeave (CallsLeave by_history h) (line ∷ []) text T'
+-- no line that is too long gets another answer than a malformed one, or changes the state
+pub record RefutesLongLine {S : Type 0} (rules : Rules S) (line text : Bytes) : Type 0 where
+  -- another answer
+  pub told : (s s' : S) → IsOtherText text → ¬ TextAnswersLines rules s (line ∷ []) text s'
+  pub front : (s : S) (T : Tables) → IsOtherText text
+      → ¬ LinesWent rules (line ∷ []) text s (λ left. left ≡ T)
+  -- another state, and tables that a crash can't leave without a call
+  pub changed : (s s' : S) → (¬ (s' ≡ s)) → ¬ TextAnswersLines rules s (line ∷ []) text s'
+  pub crash : (s : S) (T : Tables) → (¬ rules.Shows s T)
+      → ¬ LinesWent rules (line ∷ []) text s (λ left. left ≡ T)
 
 -- ---- numbers
 
@@ -141,7 +127,10 @@ pub record RefutesLineCounts : Type 0 where
   pub store : (T : Tables) (given line had : Bytes) (left : Option Bytes) (before faults : ℕ)
       → lines_of given ≡ line ∷ [] → before < last_count
       → RefutesStoreLine T given line had left before faults
-  pub long : (line text : Bytes) → longest_line < length line → RefutesLongLine line text
+  pub long : (line text : Bytes) → longest_line < length line
+      → RefutesLongLine by_tables line text
+  pub long_past : (line text : Bytes) → longest_line < length line
+      → RefutesLongLine by_history line text
   pub numbers : RefutesNumbers
   pub added : (replies : List SentReply) (sent : Option Bytes) (faults : StreamFaults)
       → RefutesAdded replies sent faults

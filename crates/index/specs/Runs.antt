@@ -1,11 +1,11 @@
 -- A run of the program: what it finds in a database file and its log, and what it leaves in them at
 -- its end or by a crash.
 use Rattle.std.specs.Prelude.{Bool, IfErr, IfOk, IfSome, IsErrOf, IsTrue, None, Result, Some, false}
-use Rattle.std.specs.Prelude.{◌↔◌, ◌≡◌, ◌⊎◌}
+use Rattle.std.specs.Prelude.{ℕ, ◌↔◌, ◌≡◌, ◌⊎◌}
 use Rattle.sqlite.specs.Closing.{HoldsAlone}
 use Rattle.sqlite.specs.Effect.{Database, IsDatabase}
 use Rattle.sqlite.specs.declared.FileStore.{FileStore}
-use Rattle.sqlite.specs.Files.{IsClosed, image_of, over_files}
+use Rattle.sqlite.specs.Files.{IsClosed, file_state, image_of, over_files}
 use Rattle.sqlite.specs.Held.{Held}
 use Rattle.sqlite.specs.WalReads.{AreClean}
 use Rattle.sqlite_trees.specs.View.{IsClean}
@@ -29,6 +29,7 @@ use Rattle.index_tables.specs.Reopened.{MayLeave}
 use Rattle.index.specs.declared.database.Finished.{Finished}
 use Rattle.index.specs.declared.database.Unclosed.{Unclosed}
 use Rattle.index.specs.declared.database.Unused.{Unused}
+use Rattle.index.specs.declared.end.End.{End}
 use Rattle.index.specs.declared.end.End.TheVariants as end
 use Rattle.index.specs.Ends.{is_fault_end}
 use Rattle.index.specs.Keeping.{FindsOnly, Keeping}
@@ -36,7 +37,7 @@ use Rattle.index.specs.Openings.{HasSumsAs, HoldsOnly, IsBadFirstUserByHex, IsCl
 use Rattle.index.specs.Openings.{cause_of_files}
 use Rattle.index.specs.Openings.{IsOpenedOn, IsUnfound, IsUnmade, IsWhyUnfound, IsWhyUnmade}
 use Rattle.index.specs.Openings.{IsWhyUnused, UnusedLeaves}
-use Rattle.index.specs.Tasks.{Does, TaskMayLeave, Task, TaskTells}
+use Rattle.index.specs.Tasks.{Does, DoesInPart, Task}
 
 -- ---- two files
 
@@ -89,21 +90,26 @@ abbrev pub CrashLeavesOnlyTables : (Trees → Type 0) → (Tables → Type 0) �
 CrashLeavesOnlyTables may_leave Are =
     (db : Trees) → may_leave db → (T : Tables) → (AreCurrent 2 db → T ≡ tables_in db) → Are T
 
--- The work on an index was cut short. It reported what `Told` says, and a crash leaves what `Left`
--- says.
+-- the tables of a database that an open after a crash may find, or any if it is no current index
+abbrev pub CrashMayLeave : (Trees → Type 0) → Tables → Type 0
+CrashMayLeave may_leave T = (db : Trees) × may_leave db × (AreCurrent 2 db → T ≡ tables_in db)
+
+-- the work on an index was cut short: what it did, and what a crash leaves of it
 pub record Interrupted {D : Type 0} {g : Ghosts D}
-    (Told : Tables → Type 0) (Left : Tables → Tables → Type 0) (start : Image)
-    (store : FileStore D g) : Type 0 where
+    (Does : Tables → (Tables → Type 0) → Type 0) (start : Image) (store : FileStore D g)
+    : Type 0 where
   pub before : Tables
   pub held : Holds start before
-  pub told : Told before
-  -- what a crash leaves of the store
-  pub left : CrashLeavesOnlyTables (over_files.recovers store) (Left before)
   -- a connection whose close left this store
   pub last : Held (FileStore D g)
   pub closed : IsClosed last store
+  pub did : Does before (CrashMayLeave (file_state last).may_leave)
+  -- what a crash leaves of the store
+  pub left : CrashLeavesOnlyTables (over_files.recovers store)
+      (CrashMayLeave (file_state last).may_leave)
   -- whatever index the next run finds is one that the work may leave
-  pub next : (image : Image) → MayLeave last image → FindsOnly in_files image (Left before)
+  pub next : (image : Image) → MayLeave last image
+      → FindsOnly in_files image (CrashMayLeave (file_state last).may_leave)
   -- the next files hold some part of an index
   pub there : (image : Image) → MayLeave last image → ¬ HoldsNone image
 
@@ -137,7 +143,7 @@ pub record RunEndsOnFiles {D : Type 0} (g : Ghosts D) (task : Task) (start : Ima
   -- accepted, and a crash leaves what the work may leave
   pub interrupted : IfOk result (λ run. IfErr run.closed (λ it.
       IsClean (over_files.view it.store)
-      → Interrupted (TaskTells task run.end) (TaskMayLeave task run.end) start it.store))
+      → Interrupted (DoesInPart task run.end) start it.store))
   pub fault : IfOk result (λ run. IfErr run.closed (λ it. IsTrue (is_fault_end it.fault)))
   -- a refused database is as it was, or an index of version 1 became a current one
   pub refused : IfErr result (λ it. IfSome it.left (UnusedLeaves IsUnfound start))
@@ -190,23 +196,21 @@ pub record Worked
   pub did : Does before after
   pub committed : IsCommitted 2 now after
 
--- an index was found in a database, the work on it reported what `Told` says, and a crash leaves
--- what `Left` says
-pub record Began (Told : Tables → Type 0) (Left : Tables → Tables → Type 0) (was : Database)
+-- an index was found in a database, and work on it was begun, of which a crash may leave this
+pub record Began (Does : Tables → (Tables → Type 0) → Type 0) (was : Database)
     (may_leave : Trees → Type 0) : Type 0 where
   pub before : Tables
   pub found : IsFound was before
-  pub told : Told before
-  pub left : CrashLeavesOnlyTables may_leave (Left before)
+  pub did : Does before (CrashMayLeave may_leave)
 
--- How work on a connection ends. The connection works, or is clean, only if it was before.
-pub record WorkEndsOnConnection (Does : Tables → Tables → Type 0) (Tells : Tables → Type 0)
-    (Leaves : Tables → Tables → Type 0) (was now : State) : Type 0 where
+-- How a task on a connection ends. The connection works, or is clean, only if it was before.
+pub record WorkEndsOnConnection (task : Task) (told : Result ℕ End) (was now : State)
+    : Type 0 where
   pub was_working : IsWorking now → IsWorking was
   pub was_clean : HasCleanDisk now → HasCleanDisk was
-  pub worked : IsWorking now → Worked Does was.now now
+  pub worked : IsWorking now → Worked (Does task told) was.now now
   pub began : HasCleanDisk now → IsTrue was.is_open
-      → Began Tells Leaves was.now now.may_leave
+      → Began (DoesInPart task told) was.now now.may_leave
 
 -- A new index with these tables was made in a database without one. The connection works, or is
 -- clean, only if it was before. A crash leaves only that index.

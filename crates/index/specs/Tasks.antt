@@ -1,27 +1,25 @@
--- Each kind of work: what it does to the tables of an index, what it reports, and what a crash may
+-- Each kind of work: how it ends, what was done on the tables of an index, and what a crash may
 -- leave of it.
-use Rattle.std.specs.Prelude.{Err, IfErr, IfOk, IsErrAnd, IsTrue, List, None, Ok, Option, Result, ℕ}
-use Rattle.std.specs.Prelude.{◌≡◌, ◌≤◌, ◌⊎◌}
+use Rattle.std.specs.Prelude.{Err, IfErr, IfOk, IfSome, IsErrAnd, IsTrue, List, None, Ok, Option}
+use Rattle.std.specs.Prelude.{Result, length, ℕ, ◌≡◌, ◌≤◌, ◌⊎◌}
+use Rattle.std.specs.List.{AllByRecursion}
 use Rattle.index_cli.specs.declared.end.LineEnd.{LineEnd}
 use Rattle.index_cli.specs.declared.end.ServeEnd.{ServeEnd}
 use Rattle.index_cli.specs.declared.end.ServeEnd.TheVariants as serve_end
 use Rattle.index_cli.specs.Ends.{LinesEnd}
 use Rattle.index_cli.specs.Connections.{AreOn, Exchange, KnownList, KnownReplies}
 use Rattle.index_cli.specs.Connections.{unknown, unknown_replies}
-use Rattle.index_cli.specs.ServesFront.{LeavingTables, ServesFirst}
-use Rattle.index_cli.specs.Serving.{ServesByHistory, Serves}
+use Rattle.index_cli.specs.LinesWent.{LinesWent}
+use Rattle.index_cli.specs.Serving.{ExchangesAreAnswered}
 use Rattle.index_cli.specs.Telling.{TextAnswersLines}
-use Rattle.index_cli.specs.LineCalls.{LineCallsLeave}
-use Rattle.index_cli.specs.LineFronts.{TextAnswersFront}
-use Rattle.index_desk.specs.ByRules.{StandsAfter}
+use Rattle.index_cli.specs.Went.{Went}
+use Rattle.index_desk.specs.ByRules.{OfEach, StandsAfter}
 use Rattle.index_desk.specs.Checks.{wrong_charges_in}
-use Rattle.index_desk.specs.Crashes.{CallsLeave}
 use Rattle.index_desk.specs.declared.desk.report.ReportFault.{ReportFault}
 use Rattle.index_desk.specs.Reports.{Reports, report_in}
-use Rattle.index_desk.specs.Rules.{by_history, by_tables}
-use Rattle.index_rules.specs.History.{History}
-use Rattle.index_rules.specs.Legal.{IsLegal}
-use Rattle.index_rules.specs.StandsFor.{StandsFor}
+use Rattle.index_desk.specs.Rules.{Rules}
+use Rattle.index_http.specs.Steps.{DeskStep}
+use Rattle.index_rules.specs.Facts.{HasOneBearer}
 use Rattle.index_rules.specs.Tables.{Tables}
 use Rattle.index.specs.declared.cause.Cause.{Cause}
 use Rattle.index.specs.declared.end.End.{End}
@@ -29,56 +27,47 @@ use Rattle.index.specs.declared.end.End.TheVariants as end
 use Rattle.index.specs.Causes.{is_of_address}
 use Rattle.index.specs.Ends.{end_of, end_of_reporting, end_of_serving, is_fault_end}
 
--- ---- each kind of work
+-- ---- what was done
+
+-- what work does on an index
+pub data Done : Type 0 where
+  -- lines were answered by this text
+  DoneLines : (lines : List (List ℕ)) → (text : List ℕ) → Done
+  -- connections were answered, here newest first
+  DoneExchanges : List Exchange → Done
+  -- the tables were looked at
+  DoneLook : Done
+
+-- all of it was answered by rules, from one state to a later one
+abbrev pub IsDone : {S : Type 0} → Rules S → Done → S → S → Type 0
+IsDone rules (DoneLines lines text) s s' = TextAnswersLines rules s lines text s'
+IsDone rules (DoneExchanges exchanges) s s' = ExchangesAreAnswered rules exchanges s s'
+IsDone rules DoneLook s s' = s' ≡ s
+
+-- All of it was answered by rules, or a part, up to a fault that shut the store. A crash may leave
+-- only such tables: those that were reached, or these with one call more.
+abbrev pub IsDoneInPart : {S : Type 0} → Rules S → Done → S → (Tables → Type 0) → Type 0
+IsDoneInPart rules (DoneLines lines text) s MayLeave = LinesWent rules lines text s MayLeave
+IsDoneInPart rules (DoneExchanges exchanges) s MayLeave = Went rules exchanges s MayLeave
+IsDoneInPart rules DoneLook s MayLeave = (T : Tables) → MayLeave T → rules.Shows s T
+
+-- all of it was done, by tables and each legal history of them, and led to these tables
+abbrev pub WasDone : Tables → Tables → Done → Type 0
+WasDone T T' done = OfEach T (λ S rules s. StandsAfter rules (IsDone rules done s) T')
+
+-- all or a part of it was done, by tables and each legal history of them
+abbrev pub WasDoneInPart : Tables → (Tables → Type 0) → Done → Type 0
+WasDoneInPart T MayLeave done = OfEach T (λ S rules s. IsDoneInPart rules done s MayLeave)
+
+-- ---- how each kind of work ends
 
 -- the lines of an input were answered up to this end
 pub record AnswersLines
-    (given left had has : Option (List ℕ)) (T T' : Tables) (result : Result ℕ End) : Type 0 where
+    (given left had has : Option (List ℕ)) (T : Tables) (result : Result ℕ End) (done : Done)
+    : Type 0 where
   pub ended : Result ℕ LineEnd
   pub is : result ≡ end_of ended
-  -- the answers are what the tables say
-  pub tables : LinesEnd (TextAnswersLines by_tables T) T' given left had has ended
-  -- the answers are what each legal history of the tables says, and the new tables stand for it
-  -- with the accepted calls
-  pub history : (h : History) → IsLegal h → StandsFor T h
-      → LinesEnd (λ lines text.
-      StandsAfter by_history (TextAnswersLines by_history h lines text)) T' given left had has ended
-
--- the answers to the lines of an input, also if a fault has shut the store: to all lines, or to
--- those up to a fault, after which no call was accepted
-pub record AnswersFirstLines
-    (given left had has : Option (List ℕ)) (T : Tables) (result : Result ℕ End) : Type 0 where
-  pub ended : Result ℕ LineEnd
-  pub is : result ≡ end_of ended
-  pub tables : LinesEnd (λ lines text U. TextAnswersFront by_tables T lines text) T
-      given left had has ended
-  pub history : (h : History) → IsLegal h → StandsFor T h
-      → LinesEnd (λ lines text U. TextAnswersFront by_history h lines text) T
-      given left had has ended
-
--- the answered lines may leave these tables: those after the accepted calls, or after these and one
--- call that was answered with a fault after the last of them
-pub record LeavesLines
-    (given left had has : Option (List ℕ)) (T T' : Tables) (result : Result ℕ End) : Type 0 where
-  pub ended : Result ℕ LineEnd
-  pub is : result ≡ end_of ended
-  pub tables : LinesEnd (LineCallsLeave (CallsLeave by_tables T)) T' given left had has ended
-  pub history : (h : History) → IsLegal h → StandsFor T h
-      → LinesEnd (LineCallsLeave (CallsLeave by_history h)) T' given left had has ended
-
--- the report or a first part of it was written, and no table changed
-pub record WritesReport
-    (had has : Option (List ℕ)) (T T' : Tables) (result : Result ℕ End) : Type 0 where
-  pub ended : Result (Unit {0}) ReportFault
-  pub is : result ≡ end_of_reporting ended
-  pub reports : Reports (report_in T) had has ended
-  pub unchanged : T' ≡ T
-
--- the wrong charges were counted, unless something failed, and no table changed
-pub record CountsWrong (T T' : Tables) (result : Result ℕ End) : Type 0 where
-  pub count : IfOk result (λ count. count ≡ wrong_charges_in T)
-  pub fault : IfErr result (λ e. IsTrue (is_fault_end e))
-  pub unchanged : T' ≡ T
+  pub told : LinesEnd (λ lines text U. done ≡ DoneLines lines text) T given left had has ended
 
 -- the address can't be listened on, or could not be printed
 abbrev pub IsNoListening : End → Type 0
@@ -100,41 +89,33 @@ IsUpTo requests (Err (end.Listen cause)) count = count ≡ 0
 IsUpTo requests (Err end.WriteFault) count = count ≡ 0
 IsUpTo requests (Err early) count = count ≤ requests
 
--- connections were answered, one after the other
+-- connections were answered, one after the other, each at the given moment, or at some moment if
+-- none is given
 pub record AnswersConnections
-    (Are : List Exchange → Type 0) (at : Option ℕ) (requests : ℕ) (T T' : Tables)
-    (result : Result ℕ End) : Type 0 where
+    (Are : List Exchange → Type 0) (at : Option ℕ) (requests : ℕ) (result : Result ℕ End)
+    (done : Done) : Type 0 where
   pub ends : IsServingEnd result
   -- it ends for want of a clock only if no moment is given
   pub clock : result ≡ Err (end.Connections serve_end.Clock) → at ≡ None
-  -- the replies are what the tables say
-  pub tables : (count : ℕ) × IsUpTo requests result count × Serves Are by_tables at count T T'
-  -- the replies are what each legal history of the tables says, and the new tables stand for it
-  -- with the accepted calls
-  pub history : (h : History) → IsLegal h → StandsFor T h
-      → (count : ℕ) × IsUpTo requests result count × ServesByHistory Are h at count T'
+  pub exchanges : List Exchange
+  pub are : Are exchanges
+  pub is : done ≡ DoneExchanges exchanges
+  pub counted : IsUpTo requests result (length exchanges)
+  pub are_given : AllByRecursion (λ exchange. IfSome at (λ it. exchange.at ≡ it)) exchanges
 
--- the replies to connections, also if a fault has shut the store: to all, or to those up to one
--- that shows a failure, after which no call was accepted
-pub record AnswersFirstConnections
-    (Are : List Exchange → Type 0) (at : Option ℕ) (requests : ℕ) (T : Tables)
-    (result : Result ℕ End) : Type 0 where
-  pub ends : IsServingEnd result
-  -- it ends for want of a clock only if no moment is given
-  pub clock : result ≡ Err (end.Connections serve_end.Clock) → at ≡ None
-  pub tables : (count : ℕ) × IsUpTo requests result count × ServesFirst Are by_tables at count T
-  pub history : (h : History) → IsLegal h → StandsFor T h
-      → (count : ℕ) × IsUpTo requests result count × ServesFirst Are by_history at count h
+-- the report or a first part of it was written
+pub record WritesReport
+    (had has : Option (List ℕ)) (T : Tables) (result : Result ℕ End) (done : Done) : Type 0 where
+  pub ended : Result (Unit {0}) ReportFault
+  pub is : result ≡ end_of_reporting ended
+  pub reports : Reports (report_in T) had has ended
+  pub looked : done ≡ DoneLook
 
--- the calls of the answered connections may leave these tables
-pub record LeavesConnections
-    (Are : List Exchange → Type 0) (at : Option ℕ) (requests : ℕ) (T T' : Tables)
-    (result : Result ℕ End) : Type 0 where
-  pub tables : (count : ℕ) × IsUpTo requests result count
-      × ServesFirst (LeavingTables Are (CallsLeave by_tables T) T') by_tables at count T
-  pub history : (h : History) → IsLegal h → StandsFor T h
-      → (count : ℕ) × IsUpTo requests result count
-      × ServesFirst (LeavingTables Are (CallsLeave by_history h) T') by_history at count h
+-- the wrong charges were counted, unless something failed
+pub record CountsWrong (T : Tables) (result : Result ℕ End) (done : Done) : Type 0 where
+  pub count : IfOk result (λ count. count ≡ wrong_charges_in T)
+  pub fault : IfErr result (λ e. IsTrue (is_fault_end e))
+  pub looked : done ≡ DoneLook
 
 -- the exchanges are the first of the connections to come, and their replies and faults are those
 -- meanwhile, by what is known before and after
@@ -162,28 +143,42 @@ abbrev pub answer_sockets : Option ℕ → ℕ → Task
 answer_sockets at requests =
     AnswerConnections at requests unknown unknown unknown_replies unknown_replies
 
--- what a task with this result does to the tables
+-- how a task ended that did this on an index with these tables
+abbrev pub TaskEnds : Task → Tables → Result ℕ End → Done → Type 0
+TaskEnds (AnswerLines given left had has) T result done =
+    AnswersLines given left had has T result done
+TaskEnds (AnswerConnections at requests coming coming' replies replies') T result done =
+    AnswersConnections (AreAmong coming coming' replies replies') at requests result done
+TaskEnds (WriteReport had has) T result done = WritesReport had has T result done
+TaskEnds CountWrong T result done = CountsWrong T result done
+
+-- a task was done at a desk
+pub record Works {S : Type 0} (desk : DeskStep S) (task : Task) (result : Result ℕ End)
+    : Type 0 where
+  pub done : Done
+  -- also if a fault has shut the store
+  pub ends : desk.books.IsHonest desk.old → desk.books.IsClean desk.new
+      → TaskEnds task (desk.books.tables desk.old) result done
+  -- if the store is honest at the end, all was done, and the tables are those after it
+  pub answered : desk.books.IsHonest desk.new
+      → WasDone (desk.books.tables desk.old) (desk.books.tables desk.new) done
+  -- also if a fault has shut the store
+  pub went : desk.books.IsHonest desk.old → desk.books.IsClean desk.new
+      → WasDoneInPart (desk.books.tables desk.old) (desk.books.may_leave desk.new) done
+
+-- what a task with this result did on an index with these tables, in which at most one user has
+-- each token's digest
+pub record Did (task : Task) (result : Result ℕ End) (T : Tables) (Is : Done → Type 0)
+    : Type 0 where
+  pub one_bearer : HasOneBearer T
+  pub done : Done
+  pub ends : TaskEnds task T result done
+  pub is : Is done
+
+-- a task did all, and led to these tables
 abbrev pub Does : Task → Result ℕ End → Tables → Tables → Type 0
-Does (AnswerLines given left had has) result T T' =
-    AnswersLines given left had has T T' result
-Does (AnswerConnections at requests coming coming' replies replies') result T T' =
-    AnswersConnections (AreAmong coming coming' replies replies') at requests T T' result
-Does (WriteReport had has) result T T' = WritesReport had has T T' result
-Does CountWrong result T T' = CountsWrong T T' result
+Does task result T T' = Did task result T (WasDone T T')
 
--- what a task with this result reports of the tables, also if a fault has shut the store
-abbrev pub TaskTells : Task → Result ℕ End → Tables → Type 0
-TaskTells (AnswerLines given left had has) result T = AnswersFirstLines given left had has T result
-TaskTells (AnswerConnections at requests coming coming' replies replies') result T =
-    AnswersFirstConnections (AreAmong coming coming' replies replies') at requests T result
-TaskTells (WriteReport had has) result T = WritesReport had has T T result
-TaskTells CountWrong result T = CountsWrong T T result
-
--- the tables that a crash may leave of a task with this result
-abbrev pub TaskMayLeave : Task → Result ℕ End → Tables → Tables → Type 0
-TaskMayLeave (AnswerLines given left had has) result T T' =
-    LeavesLines given left had has T T' result
-TaskMayLeave (AnswerConnections at requests coming coming' replies replies') result T T' =
-    LeavesConnections (AreAmong coming coming' replies replies') at requests T T' result
-TaskMayLeave (WriteReport had has) result T T' = T' ≡ T
-TaskMayLeave CountWrong result T T' = T' ≡ T
+-- a task did all or a part, also if a fault has shut the store, and a crash may leave these tables
+abbrev pub DoesInPart : Task → Result ℕ End → Tables → (Tables → Type 0) → Type 0
+DoesInPart task result T MayLeave = Did task result T (WasDoneInPart T MayLeave)

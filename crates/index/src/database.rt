@@ -9,8 +9,7 @@ ghost use Rattle.sqlite.specs.WalFiles.{image_at};
 ghost use Rattle.sqlite.specs.WalReads.{AreClean};
 ghost use Rattle.sqlite_trees.specs.View.{IsClean};
 ghost use Rattle.index_digest.specs.Digest.{read_digest};
-ghost use Rattle.index_cli.specs.LineFronts.{FrontByTables};
-ghost use Rattle.index_desk.specs.Takes.{ByTables, CrashByTables};
+ghost use Rattle.index_http.specs.Steps.{at_desk};
 ghost use Rattle.index_rules.specs.FirstTables.{first_tables};
 ghost use Rattle.index_rules.specs.Tables.{Tables};
 ghost use Rattle.index_sql_schema.specs.Schema.{no_schema};
@@ -24,7 +23,7 @@ ghost use Rattle.index.specs.Openings.{IsCleanClosed, IsOpenedOn, IsToldOf, IsUn
 ghost use Rattle.index.specs.Openings.{IsWhyUnfound, IsWhyUnmade, IsWhyUnused, UnusedLeaves};
 ghost use Rattle.index.specs.Runs.{Created, CreatedInLog, InitEndsOnFiles, RunEndsOnFiles, WorkEndsOnConnection};
 ghost use Rattle.index.specs.Runs.{CrashLeavesDatabase, IsMadeNew};
-ghost use Rattle.index.specs.Tasks.{Does, TaskMayLeave, Task, TaskTells};
+ghost use Rattle.index.specs.Tasks.{Task, Works};
 
 use crate::cause::{Cause, cause_of_calls};
 use crate::end::End;
@@ -90,11 +89,7 @@ pub trait Work {
 
     /// Does the work, and returns its number.
     fn run<B: CachesAnswers>(&mut self, rt: &HostRuntime, desk: &mut Desk<B>) -> Result<u64, End>
-        ensures done { ByTables B.Books desk.old desk.new (Does (task self.old self.new) result) }
-        ensures told { FrontByTables B.Books desk.old desk.new
-            (TaskTells (task self.old self.new) result) }
-        ensures crash { CrashByTables B.Books desk.old desk.new
-            (TaskMayLeave (task self.old self.new) result) }
+        ensures works { Works (at_desk B.Books desk.old desk.new) (task self.old self.new) result }
         ensures honest { B.IsHonest desk.new → B.IsHonest desk.old }
         ensures clean { B.IsClean desk.new → B.IsClean desk.old }
         // An early end is told only for its cause in this work.
@@ -293,8 +288,7 @@ fn work_in<S: Alter + Drop, W: Work>(
     work: &mut W,
 ) -> Result<(Connection<S>, Result<u64, End>), Unopened<S>>
     requires outside { conn.in_transaction ≡ false }
-    ensures worked { let task = W.task work.old work.new in IfOk result (λ done.
-        WorkEndsOnConnection (Does task done.1) (TaskTells task done.1) (TaskMayLeave task done.1)
+    ensures worked { IfOk result (λ done. WorkEndsOnConnection (W.task work.old work.new) done.1
         (state S.Store conn) (state S.Store done.0)) }
     ensures caused { IfOk result (λ done. W.IsCaused work.old work.new done.1) }
     ensures refused { IfErr result (λ left. HasCleanDisk (state S.Store left.conn)

@@ -1,8 +1,8 @@
 -- Where each fact that is told of calls gives a value, one value serves for all of a run.
-use Rattle.index_cli.proofs.Words.{ℕ, List, [], ◌∷◌, ◌++◌, length, Option, Some, None, Result, Ok, Err, inl, inr, arith, cases_lt, Answer}
-use Rattle.index_cli.proofs.Words.{Call, Bytes, Tables, Rules, Asks, AsksFor, IoEnd, line_of, Line, LineEnd, ReadFault, WriteFault}
-use Rattle.index_cli.proofs.Words.{LinesEnd, Telling, longest_line, Exchange, LeavingTables, ServesFirst, AsksEach, AsksOne, AsksLine}
-use Rattle.index_cli.proofs.Words.{AsksOf, LineCallsLeave}
+use Rattle.index_cli.proofs.Words.{ℕ, List, length, Option, Some, None, Result, Ok, Err, inl, inr, arith, cases_lt, Answer}
+use Rattle.index_cli.proofs.Words.{Call, Bytes, Tables, Asks, AsksFor, IoEnd, line_of, Line, LineEnd, ReadFault, WriteFault}
+use Rattle.index_cli.proofs.Words.{LinesEnd, Telling, longest_line, Exchange, AsksOne, AsksLine}
+use Rattle.index_cli.proofs.Words.{AsksOf}
 use Rattle.index_http.specs.declared.connection.IoEnd.TheVariants as io_end
 use Rattle.index_json.specs.declared.line.Line.TheVariants as line
 use Rattle.index_cli.specs.declared.end.LineEnd.TheVariants.{OutOfMemory}
@@ -112,49 +112,3 @@ module _ (A Looked : Type 0) (LookedBy : A → Type 0) (Took : Call → Answer �
   pub AsksOne-choice : (exchange : Exchange) → AsksOne exchange Looked Took → (a : A) × AsksOne exchange (LookedBy a) (TookBy a)
   AsksOne-choice exchange it = let chosen = Asks-choice exchange.had exchange.has it.ended exchange.at exchange.given it.asks in
       (chosen.0, record { ended = it.ended; asks = chosen.1; cause = it.cause })
-
-pub LineCallsLeave-choice : (A : Type 0) (T : Tables) (Left : List Call → List Answer → Tables → Type 0) (LeftBy : A → List Call
-    → List Answer → Tables → Type 0)
-    → ((calls : List Call) (answers : List Answer) → Left calls answers T → (a : A) × LeftBy a calls answers T)
-    → (lines : List (List ℕ)) (text : List ℕ) → LineCallsLeave Left lines text T → (a : A) × LineCallsLeave (LeftBy a) lines text T
-LineCallsLeave-choice A T Left LeftBy choose [] text it = let chosen = choose [] [] it.1 in (chosen.0, (it.0, chosen.1))
-LineCallsLeave-choice A T Left LeftBy choose (asked ∷ lines) text it =
-    let chosen = AsksLine-choice A _ (λ a. LineCallsLeave (LeftBy a) lines it.1 T) _
-    (λ a call answer. LineCallsLeave (λ calls answers. LeftBy a (call ∷ calls) (answer ∷ answers)) lines it.1 T)
-    (LineCallsLeave-choice A T Left LeftBy choose lines it.1)
-    (λ call answer. LineCallsLeave-choice A T (λ calls answers. Left (call ∷ calls) (answer ∷ answers))
-    (λ a calls answers. LeftBy a (call ∷ calls) (answer ∷ answers))
-    (λ calls answers. choose (call ∷ calls) (answer ∷ answers)) lines it.1)
-    asked it.0 it.3 in
-    (chosen.0, (it.0, it.1, it.2, chosen.1))
-
-AsksEach-choice : (A : Type 0) (Left : List Call → List Answer → Type 0) (LeftBy : A → List Call → List Answer → Type 0)
-    → ((calls : List Call) (answers : List Answer) → Left calls answers → (a : A) × LeftBy a calls answers)
-    → (exchanges : List Exchange) → AsksEach exchanges Left → (a : A) × AsksEach exchanges (LeftBy a)
-AsksEach-choice A Left LeftBy choose [] it = choose [] [] it
-AsksEach-choice A Left LeftBy choose (exchange ∷ earlier) it =
-    AsksEach-choice A (λ calls answers. AsksOne exchange (Left calls answers)
-    (λ call answer. Left (calls ++ call ∷ []) (answers ++ answer ∷ [])))
-    (λ a calls answers. AsksOne exchange (LeftBy a calls answers) (λ call answer. LeftBy a (calls ++ call ∷ []) (answers ++ answer ∷ [])))
-    (λ calls answers. AsksOne-choice A _ (λ a. LeftBy a calls answers) _
-    (λ a call answer. LeftBy a (calls ++ call ∷ []) (answers ++ answer ∷ []))
-    (choose calls answers) (λ call answer. choose (calls ++ call ∷ []) (answers ++ answer ∷ [])) exchange)
-    earlier it
-
-pub LeavingTables-choice : {S : Type 0} (Are : List Exchange → Type 0) (A : Type 0) (T : Tables) (Left : List Call → List Answer → Tables
-    → Type 0) (LeftBy : A → List Call → List Answer → Tables → Type 0)
-    → ((calls : List Call) (answers : List Answer) → Left calls answers T → (a : A) × LeftBy a calls answers T)
-    → (rules : Rules S) (given : Option ℕ) (count : ℕ) (s : S) → ServesFirst (LeavingTables Are Left T) rules given count s
-    → (a : A) × ServesFirst (LeavingTables Are (LeftBy a) T) rules given count s
-LeavingTables-choice Are A T Left LeftBy choose rules given count s it =
-    let chosen = AsksEach-choice A (λ calls answers. Left calls answers T) (λ a calls answers. LeftBy a calls answers T)
-    choose it.exchanges it.are.1 in (
-      chosen.0,
-      record {
-        exchanges = it.exchanges;
-        are = (it.are.0, chosen.1);
-        answered = it.answered;
-        counted = it.counted;
-        are_given = it.are_given;
-      },
-    )

@@ -1,10 +1,10 @@
--- What a client is sent for a file name is what the history has of it, and so any two replies agree.
+-- What a client is sent for a file name is what the history has of it.
 use Rattle.index_cli.proofs.Words.{◌≡◌, ◌∙◌, ◌<◌, ◌≤◌, ◌+◌, ◌⊎◌, ℕ, Bool, true, false, cond, nat_lt, List, [], ◌∷◌, ◌++◌, Option, Some}
 use Rattle.index_cli.proofs.Words.{None, refl, sym, ap, subst, inl, inr, arith, append_assoc, length-append, length, take, Result, Ok, Err}
 use Rattle.index_cli.proofs.Words.{ne_eqb, HasFailed, History, IsLegal, history_after, Bytes, Accept, Call, by_history, ReplyEnds, Acts}
 use Rattle.index_cli.proofs.Words.{InputGetsText, MessageGetsText, asks_page, IoEnd, Cut, OutOfMemory, IsInput, HttpRequest, Message}
-use Rattle.index_cli.proofs.Words.{Faulty, Whole, Answer, Accepted, Already, Refused, Fault, Exchange, no_faults, DeskAnswersConnections}
-use Rattle.index_cli.proofs.Words.{EndHasCause, ExchangeIsAnswered, ExchangesAreAnswered, Went, DeskStep, StandsFor, Reply, reply_text}
+use Rattle.index_cli.proofs.Words.{Faulty, Whole, Answer, Accepted, Already, Refused, Fault, Exchange, no_faults}
+use Rattle.index_cli.proofs.Words.{EndHasCause, ExchangeIsAnswered, ExchangesAreAnswered, Reply, reply_text}
 use Rattle.std.proofs.Common.{◌/◌, ◌%◌, ◌^◌, eqb}
 use Rattle.std.proofs.Common.{codes, decimal, drop}
 use Rattle.std.proofs.Common.{is_some, ltb-false}
@@ -24,11 +24,10 @@ use Rattle.index_rules.proofs.ServeLemmas.{serves_bound, serves_uploads}
 use Rattle.index_http.specs.Exchanges.{RequestGetsReply, ShowsFile, body_reply, refusal_reply}
 use Rattle.index_http.specs.Exchanges.{store_reply}
 use Rattle.index_http.specs.declared.connection.IoEnd.TheVariants.{ReadFault, WriteFault}
-use Rattle.index_message.specs.Fields.{Field}
 use Rattle.index_message.specs.Messages.{IsMessage}
 use Rattle.index_message.proofs.MessageLemmas.{at_most_one}
 use Rattle.index_cli.specs.Connections.{StreamFaults}
-use Rattle.index_cli.specs.FilesServed.{GotFile, IsAmong, IsServedAt, RepliesAgree, get_of_file}
+use Rattle.index_cli.specs.FilesServed.{GotFile, IsAmong, IsServedAt, get_of_file}
 use Rattle.index_http.specs.Replies.{answer_reply, fields_text, file_reply, head_text, phrase_of, reply_head}
 
 -- ---- fronts
@@ -313,22 +312,3 @@ points_agree h legal file first second one other = serves_bound h legal one.0 ot
 -- a point of a history is one of each that goes on from it
 pub served_later : (h later : History) → IsFrontOf h later → (file bytes : Bytes) → IsServedAt h file bytes → IsServedAt later file bytes
 served_later h later front file bytes it = (it.0, longer it.0 h later it.1 front, it.2)
-
-pub replies_agree : (exchanges : List Exchange) (h later : History) → IsLegal later → ExchangesAreAnswered by_history exchanges h later
-    → (one other : Exchange) → IsAmong one exchanges → IsAmong other exchanges → RepliesAgree one other
-replies_agree exchanges h later legal answered one other is is' file first second got got' =
-    points_agree later legal file first second
-    (sent_at_some_point exchanges h later legal answered one is file first got)
-    (sent_at_some_point exchanges h later legal answered other is' file second got')
-
--- ---- what a desk answered
-
-module _ {S : Type 0} (desk : DeskStep S) (Are : List Exchange → Type 0) (given : Option ℕ) (IsCount : ℕ → Type 0)
-    (it : DeskAnswersConnections desk Are given IsCount) (h : History) (legal : IsLegal h)
-    (stands : StandsFor (desk.books.tables desk.old) h) where
-  -- if the store is honest at the end: of all connections
-  pub desk_replies_agree : desk.books.IsHonest desk.new → (one other : Exchange) → IsAmong one it.exchanges → IsAmong other it.exchanges
-      → RepliesAgree one other
-  desk_replies_agree honest =
-      let now = (it.answered honest).history h legal stands in
-      replies_agree it.exchanges h now.later now.shows.0 now.is

@@ -9,8 +9,6 @@ pub mod ExchangeCauses
 pub mod FaultTexts
 pub mod Served
 pub mod WentLemmas
-pub mod Clauses
 pub mod FilesServed
 pub mod LinesWentLemmas
-pub mod LineClauses
 mod Words

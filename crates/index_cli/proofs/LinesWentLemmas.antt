@@ -1,8 +1,8 @@
 -- Lines that were answered, up to a fault that shut the store if one did, and what a crash leaves.
-use Rattle.index_cli.proofs.Words.{◌≡◌, ◌≢◌, ◌∙◌, ◌⊎◌, ℕ, true, inl, inr, refl, subst, sym, ap, List, [], ◌∷◌, ◌++◌, length, take, Contains}
-use Rattle.index_cli.proofs.Words.{Option, Result, append_assoc, append-nil, arith, cases_lt, read_name, Answer, Accepted, Already, Refused}
+use Rattle.index_cli.proofs.Words.{◌≡◌, ◌≢◌, ◌∙◌, ◌⊎◌, ℕ, true, inl, inr, refl, subst, sym, ap, List, [], ◌∷◌, ◌++◌}
+use Rattle.index_cli.proofs.Words.{Option, Result, append_assoc, append-nil, Answer, Accepted, Already, Refused}
 use Rattle.index_cli.proofs.Words.{Fault, Ghosts, Call, HasOneBearer, History, IsLegal, StandsFor, Tables, CarriesOn-answer}
-use Rattle.index_cli.proofs.Words.{sound_when_legal, StandsAfter, AnswerLeavesTables, HasCall, KeepsInvariants, LeavesTables, by_history}
+use Rattle.index_cli.proofs.Words.{sound_when_legal, HasCall, KeepsInvariants, LeavesTables, by_history}
 use Rattle.index_cli.proofs.Words.{by_tables, Takes, answers_fault, at_desk, LineEnd, LinesEnd, Telling, AsksKept, AsksLine, IsFaultText}
 use Rattle.index_cli.proofs.Words.{line_feed, AcceptNone, Answered, BeginsByFault, LinesMayHaveMade, LinesWent, lines_in, text_by}
 use Rattle.index_cli.proofs.Words.{KeptLineIsAnswered, TextAnswersLine, TextAnswersLines}
@@ -13,7 +13,7 @@ use Rattle.index_cli.proofs.Choices.{AsksLine-choice}
 use Rattle.index_cli.proofs.Histories.{line_after, lines_after}
 use Rattle.index_cli.proofs.Progress.{Pushes, TextAnswersLines-push}
 use Rattle.index_cli.proofs.RunEnds.{LinesEnd-map}
-use Rattle.index_cli.proofs.WentLemmas.{NotAccepted, call_leaves, CallMade, LookMade, Was}
+use Rattle.index_cli.proofs.WentLemmas.{NotAccepted, call_leaves, CallMade, LookMade}
 
 -- ---- one more line after a fault
 

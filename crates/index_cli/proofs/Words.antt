@@ -3,16 +3,14 @@ pub use Rattle.index_cli.specs.Causes.{HaveCounted, HaveFailed, LinesReportFault
 pub use Rattle.index_cli.specs.Connections.{AreOn, Exchange, no_faults}
 pub use Rattle.index_cli.specs.DeskAnswers.{DeskAnswersConnections}
 pub use Rattle.index_cli.specs.Ends.{AllLinesAreAnswered, LineIsPartlyAnswered, LinesBeforeAreAnswered, LinesEnd, Telling}
-pub use Rattle.index_cli.specs.LineCalls.{AsksKept, AsksLine, AsksOf, LineCallsLeave}
-pub use Rattle.index_cli.specs.LineFronts.{IsFaultText}
+pub use Rattle.index_cli.specs.LineCalls.{AsksKept, AsksLine, AsksOf}
 pub use Rattle.index_cli.specs.Lines.{Charges, PartIsTaken, TakesLine, line_feed, longest_line}
 pub use Rattle.index_cli.specs.LinesWent.{AcceptNone, Answered, BeginsByFault, LinesMayHaveMade, LinesWent, lines_in, text_by}
 pub use Rattle.index_cli.specs.Replies.{KeptLineIsAnswered}
-pub use Rattle.index_cli.specs.ServesFront.{AcceptsNothing, LeavingTables, ServesFirst}
-pub use Rattle.index_cli.specs.Serving.{AsksEach, AsksOne, DeskAnswersExchange, EndHasCause, ExchangeIsAnswered, ExchangesAreAnswered}
-pub use Rattle.index_cli.specs.Telling.{TextAnswersLine, TextAnswersLines, TextAnswersParsedLine}
+pub use Rattle.index_cli.specs.Serving.{AsksOne, DeskAnswersExchange, EndHasCause, ExchangeIsAnswered, ExchangesAreAnswered}
+pub use Rattle.index_cli.specs.Telling.{IsFaultText, TextAnswersLine, TextAnswersLines, TextAnswersParsedLine}
 pub use Rattle.index_cli.specs.Waiting.{AddsBehind}
-pub use Rattle.index_cli.specs.Went.{BeginsByFailure, MayHaveMade, Went}
+pub use Rattle.index_cli.specs.Went.{AcceptsNothing, BeginsByFailure, MayHaveMade, Went}
 pub use Rattle.index_cli.specs.declared.end.LineEnd.{LineEnd}
 pub use Rattle.index_cli.specs.declared.end.LineEnd.TheVariants.{ReadFault, WriteFault}
 pub use Rattle.index_desk.proofs.InvariantLemmas.{keeps_on, looks_keep}

@@ -1,6 +1,5 @@
--- The replies with the bytes of a file: any two of one file name agree.
-use Rattle.std.specs.Prelude.{◌≡◌, ◌⊎◌, List, [], ◌∷◌, Some, false, length}
-use Rattle.index_digest.specs.Digest.{sha256}
+-- The replies with the bytes of a file.
+use Rattle.std.specs.Prelude.{◌≡◌, ◌⊎◌, List, [], ◌∷◌, Some, false}
 use Rattle.index_http.specs.Replies.{file_reply, reply_text}
 use Rattle.index_message.specs.Fields.{Field}
 use Rattle.index_message.specs.Messages.{IsMessage}
@@ -39,9 +38,3 @@ IsAmong one (exchange ∷ earlier) = (one ≡ exchange) ⊎ IsAmong one earlier
 abbrev pub IsServedAt : History → Bytes → Bytes → Type 0
 IsServedAt h file bytes =
     (at : History) × IsFrontOf at h × (body_after at file ≡ Some bytes)
-
--- if two clients were sent the bytes of one file name, they have one digest and one size
-abbrev pub RepliesAgree : (one other : Exchange) → Type 0
-RepliesAgree one other =
-    (file first second : Bytes) → GotFile one file first → GotFile other file second
-    → (sha256 first ≡ sha256 second) × (length first ≡ length second)

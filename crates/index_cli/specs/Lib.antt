@@ -5,11 +5,9 @@ pub mod LineCalls
 pub mod Connections
 pub mod Steps
 pub mod Ends
-pub mod LineFronts
 pub mod Replies
 pub mod Causes
 pub mod Serving
-pub mod ServesFront
 pub mod Went
 pub mod LinesWent
 pub mod DeskAnswers

@@ -1,14 +1,13 @@
 -- The calls that answered lines ask for, and their answers.
-use Rattle.std.specs.Prelude.{List, None, Option, Some, [], length, take, ℕ, ◌++◌, ◌<◌, ◌∷◌, ◌≡◌}
+use Rattle.std.specs.Prelude.{List, None, Option, Some, length, take, ℕ, ◌<◌, ◌≡◌}
 use Rattle.std.specs.Prelude.{◌≤◌}
 use Rattle.index_rules.specs.declared.answer.Answer.{Answer}
 use Rattle.index_rules.specs.declared.call.Call.{Call}
-use Rattle.index_rules.specs.Tables.{Tables}
 use Rattle.index_json.specs.AnswerText.{answer_text_of}
 use Rattle.index_json.specs.Line.{line_of}
 use Rattle.index_json.specs.declared.line.Line.{Line}
 use Rattle.index_json.specs.declared.line.Line.TheVariants as line
-use Rattle.index_cli.specs.Lines.{line_feed, longest_line}
+use Rattle.index_cli.specs.Lines.{longest_line}
 
 -- a parsed line asks for no call, or for one whose answer is in the text
 abbrev pub AsksOf : Option Line → List ℕ → Type 0 → (Call → Answer → Type 0) → Type 0
@@ -28,14 +27,3 @@ abbrev pub AsksKept : ℕ → List ℕ → List ℕ → Type 0 → (Call → Ans
 AsksKept size kept text Looked Took =
     (line : List ℕ) → length line ≡ size → kept ≡ take longest_line line
     → AsksLine line text Looked Took
-
--- `Left` of the calls and answers of these lines, whose answers, each with a line feed, are the
--- text
-abbrev pub LineCallsLeave : (List Call → List Answer → Tables → Type 0)
-    → List (List ℕ) → List ℕ → Tables → Type 0
-LineCallsLeave Left [] text T' = (text ≡ []) × Left [] [] T'
-LineCallsLeave Left (line ∷ lines) text T' = (first : List ℕ) × (more : List ℕ)
-    × (text ≡ (first ++ line_feed ∷ []) ++ more)
-    × AsksLine line first (LineCallsLeave Left lines more T')
-    (λ call answer.
-    LineCallsLeave (λ calls answers. Left (call ∷ calls) (answer ∷ answers)) lines more T')

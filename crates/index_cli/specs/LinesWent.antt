@@ -6,9 +6,8 @@ use Rattle.index_desk.specs.Crashes.{HasCall}
 use Rattle.index_desk.specs.Rules.{Rules}
 use Rattle.index_desk.specs.Takes.{answers_fault}
 use Rattle.index_cli.specs.LineCalls.{AsksLine}
-use Rattle.index_cli.specs.LineFronts.{IsFaultText}
 use Rattle.index_cli.specs.Lines.{line_feed}
-use Rattle.index_cli.specs.Telling.{TextAnswersLine, TextAnswersLines}
+use Rattle.index_cli.specs.Telling.{IsFaultText, TextAnswersLine, TextAnswersLines}
 
 -- lines with the texts that answer them
 abbrev pub Answered : Type 0

@@ -15,8 +15,7 @@ use Rattle.index_desk.specs.Takes.{Takes}
 use Rattle.index_json.specs.AnswerText.{answer_text_of}
 use Rattle.index_cli.specs.Causes.{HasCauses, ReplyCountsStoreFault}
 use Rattle.index_cli.specs.Lines.{longest_line}
-use Rattle.index_cli.specs.Telling.{TextAnswersLine, TextAnswersStanding}
-use Rattle.index_cli.specs.LineFronts.{IsFaultText}
+use Rattle.index_cli.specs.Telling.{IsFaultText, TextAnswersLine, TextAnswersStanding}
 use Rattle.index_cli.specs.declared.end.LineEnd.{LineEnd}
 use Rattle.index_cli.specs.declared.reply.LineReply.{LineReply}
 use Rattle.index_cli.specs.declared.reply.LineReply.TheVariants.{Fixed, Made}

@@ -1,16 +1,11 @@
 -- The state after the messages of connections, one after the other, by rules over any state.
-use Rattle.std.specs.Prelude.{Err, IfSome, List, Ok, Option, Result, [], length, ℕ, ◌++◌, ◌<◌, ◌∷◌}
+use Rattle.std.specs.Prelude.{Err, IfSome, List, Ok, Option, Result, [], ℕ, ◌<◌, ◌∷◌}
 use Rattle.std.specs.Prelude.{⊤, ◌≡◌, ◌⊎◌}
-use Rattle.std.specs.List.{AllByRecursion}
 use Rattle.index_io.specs.Counts.{HasFailed}
 use Rattle.index_rules.specs.declared.answer.Answer.{Answer}
 use Rattle.index_rules.specs.declared.books.Books.{Ghosts}
 use Rattle.index_rules.specs.declared.call.Call.{Call}
 use Rattle.index_rules.specs.Facts.{HasOneBearer}
-use Rattle.index_rules.specs.Tables.{Tables}
-use Rattle.index_rules.specs.History.{History}
-use Rattle.index_rules.specs.Legal.{IsLegal}
-use Rattle.index_rules.specs.StandsFor.{StandsFor}
 use Rattle.index_desk.specs.ByRules.{StandsAfter}
 use Rattle.index_desk.specs.Invariants.{KeepsInvariants}
 use Rattle.index_desk.specs.Looks.{LeavesTables}
@@ -67,23 +62,6 @@ ExchangesAreAnswered {S} rules (exchange ∷ earlier) s s' =
     (between : S) × ExchangesAreAnswered rules earlier s between
     × ExchangeIsAnswered rules exchange between s'
 
--- this many connections were answered, each at the given moment, or at some moment if none is given
-pub record Serves {S : Type 0} (Are : List Exchange → Type 0) (rules : Rules S)
-    (given : Option ℕ) (count : ℕ) (s s' : S) : Type 0 where
-  pub exchanges : List Exchange
-  pub are : Are exchanges
-  pub answered : ExchangesAreAnswered rules exchanges s s'
-  pub counted : length exchanges ≡ count
-  pub are_given : AllByRecursion (λ exchange. IfSome given (λ it. exchange.at ≡ it)) exchanges
-
--- the tables stand for a legal history that this many exchanges make of another history
-pub record ServesByHistory (Are : List Exchange → Type 0) (h : History)
-    (given : Option ℕ) (count : ℕ) (T' : Tables) : Type 0 where
-  pub later : History
-  pub serves : Serves Are by_history given count h later
-  pub legal : IsLegal later
-  pub stands : StandsFor T' later
-
 -- what a connection asked of a desk: no call, or one call, whose answer is in its reply
 pub record AsksOne (exchange : Exchange) (Looked : Type 0) (Took : Call → Answer → Type 0)
     : Type 0 where
@@ -118,13 +96,6 @@ pub record NextConnectionIsAnswered {S C : Type 0} (given : Option ℕ) (desk : 
   pub closed : AddsReply (connections.replies connections.old)
       (connections.replies connections.new) exchange.has exchange.faults
   pub answers : DeskAnswersExchange desk.books desk.old desk.new exchange
-
--- `Holds` of the calls of these exchanges, newest first, and of their answers
-abbrev pub AsksEach : List Exchange → (List Call → List Answer → Type 0) → Type 0
-AsksEach [] Holds = Holds [] []
-AsksEach (exchange ∷ earlier) Holds =
-    AsksEach earlier (λ calls answers. AsksOne exchange (Holds calls answers)
-    (λ call answer. Holds (calls ++ call ∷ []) (answers ++ answer ∷ [])))
 
 -- all of the requested connections, or fewer if the run ended early
 abbrev pub IsCount : ℕ → Result (Unit {0}) ServeEnd → ℕ → Type 0

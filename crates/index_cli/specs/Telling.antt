@@ -16,6 +16,10 @@ use Rattle.index_json.specs.declared.line.Line.{Line}
 use Rattle.index_json.specs.declared.line.Line.TheVariants as line
 use Rattle.index_cli.specs.Lines.{line_feed, longest_line}
 
+-- the text of a fault
+abbrev pub IsFaultText : List ℕ → Type 0
+IsFaultText text = (fault : Fault) × (text ≡ answer_text_of (answer.Fault fault))
+
 -- the text that answers a line asking for the standing of a name: the standing, a fault, or that
 -- the name is not valid
 abbrev pub TextAnswersStanding : {S : Type 0} → Rules S → S → Option (List ℕ) → List ℕ → Type 0

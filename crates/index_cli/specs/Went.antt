@@ -1,12 +1,16 @@
 -- Exchanges that were answered by the rules, and those after a fault that shut the store.
-use Rattle.std.specs.Prelude.{◌≡◌, ◌⊎◌, List, [], ◌∷◌, ◌++◌, true}
+use Rattle.std.specs.Prelude.{◌≡◌, ◌≢◌, ◌⊎◌, List, [], ◌∷◌, ◌++◌, true}
+use Rattle.index_rules.specs.declared.answer.Answer.TheVariants.{Accepted}
 use Rattle.index_rules.specs.Tables.{Tables}
 use Rattle.index_desk.specs.Crashes.{HasCall}
 use Rattle.index_desk.specs.Rules.{Rules}
 use Rattle.index_desk.specs.Takes.{answers_fault}
 use Rattle.index_cli.specs.Connections.{Exchange}
-use Rattle.index_cli.specs.ServesFront.{AcceptsNothing}
 use Rattle.index_cli.specs.Serving.{AsksOne, ExchangeShowsFailure, ExchangesAreAnswered}
+
+-- an exchange whose call, if any, was not accepted
+abbrev pub AcceptsNothing : Exchange → Type 0
+AcceptsNothing exchange = AsksOne exchange (Unit {0}) (λ call answer. answer ≢ Accepted)
 
 -- exchanges, newest first, of which no call was accepted, and the oldest shows a failure
 abbrev pub BeginsByFailure : {S : Type 0} → Rules S → List Exchange → S → Type 0

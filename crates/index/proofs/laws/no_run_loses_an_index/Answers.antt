@@ -1,7 +1,7 @@
 use Rattle.index.proofs.Words.{in_volume, in_files}
 use Rattle.index.proofs.ChainLemmas.{found_in_files}
 use Rattle.index.proofs.GoesOnLemmas.{there_by_run}
-use Rattle.index.proofs.RefutedLemmas.{created_run_found_none, created_run_leaves_an_index, cut_run_leaves_an_index, index_is_not_none}
+use Rattle.index.proofs.RefutedLemmas.{created_run_found_none, created_run_leaves_an_index, index_is_not_none, work_run_leaves_an_index}
 use Rattle.index.proofs.VolumeLemmas.{found_in_volume}
 use Rattle.index.proofs.laws.no_run_loses_an_index.Goals as goal
 
@@ -21,4 +21,4 @@ pub returns-clause-anew : goal.returns-clause-anew
 returns-clause-anew c = created_run_found_none
 
 pub returns-clause-cut : goal.returns-clause-cut
-returns-clause-cut c = cut_run_leaves_an_index
+returns-clause-cut c = work_run_leaves_an_index

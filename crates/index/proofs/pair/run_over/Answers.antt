@@ -11,9 +11,10 @@ returns-clause-worked g c =
     let parts : c.into_parts-books.result ≡ (last.books, last.disk) = search rules in
     let worked : WorksOver task c.run-end.result (placed_side g.S.Store g.E.Disk first.books.conn first.disk)
     (placed_side g.S.Store g.E.Disk last.books.conn last.disk) = record {
-      done = c.run-end.ensures.done;
-      told = c.run-end.ensures.told;
-      crash = c.run-end.ensures.crash;
+      done = c.run-end.ensures.works.done;
+      ends = c.run-end.ensures.works.ends;
+      answered = c.run-end.ensures.works.answered;
+      went = c.run-end.ensures.works.went;
       honest = c.run-end.ensures.honest;
       clean = c.run-end.ensures.clean;
     } in
