@@ -13,6 +13,7 @@ pub mod RoundLemmas
 pub mod RunLemmas
 pub mod ServedLemmas
 pub mod ThereLemmas
+pub mod UnusedLemmas
 pub mod VolumeLemmas
 pub mod VolumeRuns
 pub mod WrongLemmas

@@ -27,6 +27,12 @@ pub ends_from : {D E W : Type 0} {g : Ghosts D} {e : Ghosts E} (task : W → W �
 ends_from {e = e} task was mid now {conn = conn} {volume = volume} {result = result} idle ends =
     subst (λ it. EndsOnPlaced e (task it now) conn volume result) idle ends
 
+-- what is said of a connection is said of one that is the same
+pub ends_on : {D E : Type 0} {g : Ghosts D} {e : Ghosts E} {task : Task} {now conn : Held (FileStore D g)} {volume : List ℕ}
+    {result : Result ℕ End} → now ≡ conn → EndsOnPlaced e task now volume result → EndsOnPlaced e task conn volume result
+ends_on {e = e} {task = task} {volume = volume} {result = result} same ends =
+    subst (λ held. EndsOnPlaced e task held volume result) same ends
+
 -- the result of work and of closing is told
 pub told_over : (early : Result ℕ End) (closing closed : Result (Unit {0}) End) (ended told : Result ℕ End)
     → ended ≡ end_by early closing → closing ≡ closed → IsToldOver ended told → IsToldOver (end_by early closed) told

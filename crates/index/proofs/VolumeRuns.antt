@@ -4,15 +4,16 @@ use Rattle.index.proofs.Words.{∥∥₁_elim, ∥∥₁_map, HasCleanDisk, IsCl
 use Rattle.index.proofs.Words.{file_state, over_files, Held, Image, AreClean, Ghosts, Files, OpenFault, first_tables, Bytes, Tables}
 use Rattle.index.proofs.Words.{has_any_of, tables_of, index_schema, BooksState, IsHonest, IsWorking, IsCommitted, AreNew, TakesPlaced, Fits}
 use Rattle.index.proofs.Words.{over, Unclosed, End, CreatedRun, LeadsOn, HoldsPlaced, IsNextPair, IsNextOf, Pair, in_volume, HoldsOnly}
-use Rattle.index.proofs.Words.{IsOpenedOn, IsWhyUnfound, placed_side, Task, DoesInPart, OpensAgain}
+use Rattle.index.proofs.Words.{IsOpenedOn, IsWhyUnfound, placed_side, Task, DoesInPart, OpensAgain, Leaves}
 use Rattle.sqlite.specs.Effect.{IsDatabase}
 use Rattle.index_sql_schema.proofs.BearerLemmas.{one_bearer}
 use Rattle.index_volume_books.specs.Through.{BothClean, both_tables, left_of}
-use Rattle.index.specs.InVolume.{AllClean}
-use Rattle.index.specs.Pairs.{EndsOver, HasDatabaseOf, LeavesToNext, TookAndRan}
+use Rattle.index.specs.declared.pair.WithoutVolume.{WithoutVolume}
+use Rattle.index.specs.InVolume.{AllClean, AreWhole}
+use Rattle.index.specs.Pairs.{EndsOver, HasDatabaseOf, IsWithoutVolume, LeavesToNext, StaysBeside, TookAndRan}
 use Rattle.index.proofs.RunLemmas.{clean_before, found_among, only_of, working_of}
 use Rattle.index.proofs.DoneLemmas.{cut_to}
-use Rattle.index.proofs.ThereLemmas.{no_proof, not_left, not_these}
+use Rattle.index.proofs.ThereLemmas.{no_proof, not_left, not_same, not_these}
 use Rattle.index.proofs.VolumeLemmas.{image_to_next, left_to_next, no_places}
 
 -- ---- the database that was found
@@ -98,11 +99,45 @@ module _ {D E : Type 0} {g : Ghosts D} (e : Ghosts E) (task : Task) (start : Pai
   closed_ended disk same it (Ok files) copied = λ clean. ended disk same it files (copied clean.0) clean
   closed_ended disk same it (Err unclosed) copied = tt
 
-  -- ---- work that was cut short
+  -- ---- no work, for want of a volume
 
   -- a connection whose version was read works, as far as its disk is clean
   begun : HasCleanDisk (file_state books.conn) → IsWorking (file_state conn)
   begun clean = record { clean = takes.opened.was_clean clean; is_open = takes.was_open clean }
+
+  placed_before : (P T : Tables) → AreWhole start.volume P T → Leaves 3 (file_state books.conn) P → HoldsPlaced start T
+  placed_before P T within left =
+      let working = begun left.0 in
+      let honest = takes.opened.lasts working left.0 in
+      let is : P ≡ tables_of over_files books.conn = takes.opened.alone working P left in
+      record {
+        db = (file_state conn).now;
+        places = tables_of over_files books.conn;
+        current = takes.found (record { clean = honest.clean; is_open = honest.is_open });
+        only = (has working).only;
+        within = subst (λ (places : Tables). AreWhole start.volume places T) is within;
+      }
+
+  unmoved : (WasThere : List ℕ → Type 0) (left : WithoutVolume D E g) → IsWithoutVolume e books.conn WasThere left
+      → StaysBeside start left.conn
+  unmoved WasThere left it clean next may = (
+    λ some none. ∥∥₁_elim (opens_again left.conn.store again.0 again.1 next may) no_proof (λ db.
+        other.1 (before other.0 (clean, (db.0, db.1, λ current. absurd (not_these 3 none db.0 (none.only.alone db.0 db.2) current))))),
+    λ T holds. ∥∥₁_map (found_among left.conn.store again next may holds.db holds.only) (λ allowed.
+        placed_before holds.places T holds.within
+        (it.leaves holds.places (clean, (holds.db.trees, allowed, λ current. holds.current.tables)))),
+  )
+    where
+      again : OpensAgain left.conn.store
+      again = it.again clean
+
+      before : (P : Tables) → Leaves 3 (file_state left.conn) P → P ≡ tables_of over_files books.conn
+      before P leaves = let was = it.leaves P leaves in takes.opened.alone (begun was.0) P was
+
+      other : (P : Tables) × (¬ (P ≡ tables_of over_files books.conn))
+      other = not_same (tables_of over_files books.conn)
+
+  -- ---- work that was cut short
 
   cut : {result : Result ℕ End} (disk : E) → e.seen disk ≡ start.volume → (it : TookAndRan e task books.conn disk result)
       → HasCleanDisk (file_state it.ran.last) → IsTrue (e.is_clean it.ran.last_disk)
@@ -165,12 +200,13 @@ module _ {D E : Type 0} {g : Ghosts D} (e : Ghosts E) (task : Task) (start : Pai
   closed_cut disk same it (Ok files) kept = tt
   closed_cut disk same it (Err left) kept = λ clean. cut disk same it (clean_before it.ran.last left.store kept clean)
 
-  pub leaves_to_next : {result : Result ℕ End} (over : EndsOver e task books.conn start.volume result) → LeavesToNext e task start over
-  leaves_to_next (inl without) = tt
-  leaves_to_next (inr it) = record {
+  pub leaves_to_next : (worked : Result (Result ℕ End) (WithoutVolume D E g)) (it : EndsOver e task books.conn start.volume worked)
+      → LeavesToNext e task start books.conn worked it
+  leaves_to_next (Ok result) it = record {
     ended = closed_ended it.0 it.1 it.2 it.2.ran.closed it.2.ran.copied;
     cut = closed_cut it.0 it.1 it.2 it.2.ran.closed it.2.ran.kept;
   }
+  leaves_to_next (Err left) it = unmoved (λ next. next ≡ start.volume) left it
 
 -- ---- a new index
 

@@ -117,14 +117,20 @@ module _ {D : Type 0} {g : Ghosts D} where
   MayStay (leftover.Unopened now) next = ⊥
   MayStay (leftover.Store now) next = OpensAgain now × (store.state now).may_leave next
 
+  -- nothing was done on a connection: of the files that a crash leaves of it, this holds
+  abbrev pub CrashLeavesFiles : Held (FileStore D g) → (Image → Type 0) → Type 0
+  CrashLeavesFiles conn Next =
+      HasCleanDisk (file_state conn) → (next : Image) → MayLeave conn next → Next next
+
+  -- nothing was done on the files: of those that a crash leaves of them, this holds
+  abbrev pub UnusedLeavesFiles : Left D g → (Image → Type 0) → Type 0
+  UnusedLeavesFiles (unused.Shut left) Next =
+      IsCleanLeft left → (next : Image) → MayStay left next → Next next
+  UnusedLeavesFiles (unused.Refused left) Next = CrashLeavesFiles left.conn Next
+
   -- Nothing was done on the files. The next ones hold what a crash leaves of them.
   abbrev pub UnusedLeadsOn : Run → Image → Left D g → Type 0
-  UnusedLeadsOn run start (unused.Shut left) =
-      IsCleanLeft left → (next : Image) → MayStay left next
-      → LeadsOn in_files run start next
-  UnusedLeadsOn run start (unused.Refused left) =
-      HasCleanDisk (file_state left.conn) → (next : Image)
-      → MayLeave left.conn next → LeadsOn in_files run start next
+  UnusedLeadsOn run start left = UnusedLeavesFiles left (LeadsOn in_files run start)
 
 -- the next files after a run of work, by its task
 pub record WorkLeadsOn {D : Type 0} (g : Ghosts D) (task : Task) (start : Image)

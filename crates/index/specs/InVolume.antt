@@ -66,11 +66,15 @@ AllClean g e files disk = AreClean g files.log files.db × IsTrue (e.is_clean di
 abbrev pub IsNextOf : {D : Type 0} → Ghosts D → Files D → Image → Type 0
 IsNextOf g files next = (next ≡ image_of g files) ⊎ outcomes g files.log files.db next
 
--- and the same of the volume
+-- the next run finds a volume as it is, or as a crash leaves it
+abbrev pub IsNextVolume : {E : Type 0} → Ghosts E → E → List ℕ → Type 0
+IsNextVolume e disk next = (next ≡ e.seen disk) ⊎ e.may_leave disk next
+
+-- and both
 pub record IsNextPair {D E : Type 0} (g : Ghosts D) (e : Ghosts E) (files : Files D) (disk : E)
     (next : Pair) : Type 0 where
   pub image : IsNextOf g files next.image
-  pub volume : (next.volume ≡ e.seen disk) ⊎ e.may_leave disk next.volume
+  pub volume : IsNextVolume e disk next.volume
 
 -- The files of the database were not closed. The next run finds what a crash leaves of them, and of
 -- the volume.

@@ -1,8 +1,7 @@
 -- A run over a database of version 3 and its volume: what is known of its calls, of a crash in
--- them, and of what the next run finds if work was done.
+-- them, and of what the next run finds.
 use Rattle.std.specs.Prelude.{◌≡◌, ◌⊎◌, ◌↔◌, Bool, ℕ, List, Option, Some, None, Result, Ok, Err}
-use Rattle.std.specs.Prelude.{IfErr, IfOk, IsErrAnd, IsOk, IsTrue, false, true}
-use Rattle.std.proofs.Common.{inl, inr}
+use Rattle.std.specs.Prelude.{IfErr, IfOk, IfSome, IsErrAnd, IsOk, IsTrue, false, true}
 use Rattle.std.specs.declared.process.ExitCode.{ExitCode}
 use Rattle.sqlite.specs.Closing.{IsCopied}
 use Rattle.sqlite.specs.Effect.{IsDatabase}
@@ -35,18 +34,22 @@ use Rattle.index_volume_books.specs.Over.{Fits}
 use Rattle.index_volume_books.specs.Taken.{AreTaken}
 use Rattle.index_volume_books.specs.Through.{BothClean, BothHonest, Side, both_tables, left_of}
 use Rattle.index_volume.specs.Volume.{Keeps}
+use Rattle.index.specs.declared.database.Left.{Left}
 use Rattle.index.specs.declared.database.Left.TheVariants as unused
 use Rattle.index.specs.declared.database.Unclosed.{Unclosed}
 use Rattle.index.specs.declared.failed_opening.FailedOpening.{FailedOpening}
+use Rattle.index.specs.declared.pair.WithoutVolume.{WithoutVolume}
 use Rattle.index.specs.declared.end.End.{End}
 use Rattle.index.specs.declared.end.End.TheVariants as end
-use Rattle.index.specs.Chains.{CreatedRun, LeadsOn, WorkRun}
+use Rattle.index.specs.Chains.{CrashLeavesFiles, CreatedRun, LeadsOn, UnusedLeavesFiles}
+use Rattle.index.specs.Chains.{UnusedRun, WorkRun}
 use Rattle.index.specs.Ends.{closing_of, end_by, is_fault_end, is_store}
-use Rattle.index.specs.InVolume.{AllClean, IsLeftPair, IsNextPair, IsNextOf, Pair, in_volume}
-use Rattle.index.specs.InVolume.{pair_of}
+use Rattle.index.specs.InVolume.{AllClean, IsLeftPair, IsNextPair, IsNextOf, IsNextVolume, Pair}
+use Rattle.index.specs.InVolume.{in_volume, pair_of}
 use Rattle.index.specs.Jobs.{ComesOfInit, ComesOfRun, Coming, JobEnds, JobEndsBy, ProgramEndsBy}
 use Rattle.index.specs.Openings.{HasSumsAs, HoldsOnly, IsBadFirstUserByHex, IsOpenedOn, IsToldOf}
-use Rattle.index.specs.Openings.{IsUnfound, IsWhyUnfound, IsWhyUnused, OpeningEnds, OpensAgain}
+use Rattle.index.specs.Openings.{IsUnfound, IsUnmade, IsWhyUnfound, IsWhyUnused, OpeningEnds}
+use Rattle.index.specs.Openings.{OpensAgain}
 use Rattle.index.specs.Openings.{UnusedLeaves}
 use Rattle.index.specs.SecondLines.{volume_of_job}
 use Rattle.index.specs.Tasks.{Done, Task, TaskEnds, WasDone, WasDoneInPart}
@@ -103,9 +106,18 @@ IsToldOver (Err early) result =
     (is_store early ≡ false → result ≡ Err early)
     × (is_store early ≡ true → IsErrAnd result (λ told. IsTrue (is_store told)))
 
--- the volume could not be opened, or not be taken together with the database: no work was done
-abbrev pub IsWithoutVolume : Result ℕ End → Type 0
-IsWithoutVolume result = IsErrAnd result (λ told. IsTrue (is_fault_end told))
+-- No work was done on the tables on a connection, since their volume could not be opened, or not be
+-- taken together with them. `WasThere` says what the volume had.
+pub record IsWithoutVolume {D E : Type 0} {g : Ghosts D} (e : Ghosts E)
+    (books : Held (FileStore D g)) (WasThere : List ℕ → Type 0) (left : WithoutVolume D E g)
+    : Type 0 where
+  pub fault : IsTrue (is_fault_end left.why)
+  -- a crash leaves no tables that it could not leave before
+  pub leaves : (T : Tables) → Leaves 3 (file_state left.conn) T → Leaves 3 (file_state books) T
+  pub again : HasCleanDisk (file_state left.conn) → OpensAgain left.conn.store
+  -- if the volume was opened, the next run finds what it had
+  pub volume : IfSome left.disk (λ disk. (next : List ℕ) → IsNextVolume e disk next
+      → WasThere next)
 
 -- work was done over tables on a connection and a volume, and the files of the database were closed
 pub record RanOver {D E : Type 0} {g : Ghosts D} (e : Ghosts E) (task : Task)
@@ -134,18 +146,32 @@ pub record TookAndRan {D E : Type 0} {g : Ghosts D} (e : Ghosts E) (task : Task)
       (placed_side over_files e first first_disk)
   pub ran : RanOver e task first first_disk result
 
+-- the result of work over a volume, or why there was none
+abbrev pub result_over : {D E : Type 0} {g : Ghosts D}
+    → Result (Result ℕ End) (WithoutVolume D E g) → Result ℕ End
+result_over (Ok result) = result
+result_over (Err left) = Err left.why
+
 -- how work ends over tables on a connection and the opened file of a volume
 abbrev pub EndsOverDisk : {D E : Type 0} {g : Ghosts D} → Ghosts E → Task → Held (FileStore D g)
-    → E → Result ℕ End → Type 0
-EndsOverDisk e task books disk result =
-    IsWithoutVolume result ⊎ TookAndRan e task books disk result
+    → E → Result (Result ℕ End) (WithoutVolume D E g) → Type 0
+EndsOverDisk e task books disk (Ok result) = TookAndRan e task books disk result
+EndsOverDisk e task books disk (Err left) =
+    IsWithoutVolume e books (IsNextVolume e disk) left
 
--- how a run over the tables of version 3 on a connection ends, with a volume that held this
+-- how work ends over the tables of version 3 on a connection, with a volume that held this
 abbrev pub EndsOver : {D E : Type 0} {g : Ghosts D} → Ghosts E → Task → Held (FileStore D g)
-    → List ℕ → Result ℕ End → Type 0
-EndsOver {E = E} e task books volume result =
-    IsWithoutVolume result
-    ⊎ ((disk : E) × (e.seen disk ≡ volume) × TookAndRan e task books disk result)
+    → List ℕ → Result (Result ℕ End) (WithoutVolume D E g) → Type 0
+EndsOver {E = E} e task books volume (Ok result) =
+    (disk : E) × (e.seen disk ≡ volume) × TookAndRan e task books disk result
+EndsOver e task books volume (Err left) = IsWithoutVolume e books (λ next. next ≡ volume) left
+
+-- how a run over these tables ends, with a volume that held this
+pub record RunEndsOver {D E : Type 0} {g : Ghosts D} (e : Ghosts E) (task : Task)
+    (books : Held (FileStore D g)) (volume : List ℕ) (result : Result ℕ End) : Type 0 where
+  pub worked : Result (Result ℕ End) (WithoutVolume D E g)
+  pub ends : EndsOver e task books volume worked
+  pub told : result ≡ result_over worked
 
 -- Work on an index leads to the next run: with its result if the files were closed, else with what
 -- it may leave when it is cut short.
@@ -160,32 +186,47 @@ pub record RanLeadsOn {D E : Type 0} {g : Ghosts D} (e : Ghosts E) (task : Task)
       → (next : Pair) → IsLeftPair e ran.last ran.last_disk next
       → LeadsOn in_volume (WorkRun false task ran.early) start next)
 
--- The next run finds what work left, if it was done.
-abbrev pub LeavesToNext : {D E : Type 0} {g : Ghosts D} (e : Ghosts E) (task : Task) (start : Pair)
-    {books : Held (FileStore D g)} {result : Result ℕ End}
-    → EndsOver e task books start.volume result → Type 0
-LeavesToNext e task start (inl without) = Unit {0}
-LeavesToNext e task start (inr it) = RanLeadsOn e task start it.2.ran
+-- Nothing was done on a connection. The next run finds what a crash leaves of it, beside the volume
+-- as it was.
+abbrev pub StaysBeside : {D : Type 0} {g : Ghosts D} → Pair → Held (FileStore D g) → Type 0
+StaysBeside start conn =
+    CrashLeavesFiles conn (λ next. LeadsOn in_volume UnusedRun start (pair_of next start.volume))
 
--- the same, if an index of version 3 was found
+-- Nothing was done on two files. The next run finds what a crash leaves of them, beside the volume
+-- as it was.
+abbrev pub UnusedStaysBeside : {D : Type 0} {g : Ghosts D} → Pair → Left D g → Type 0
+UnusedStaysBeside start left =
+    UnusedLeavesFiles left (λ next. LeadsOn in_volume UnusedRun start (pair_of next start.volume))
+
+-- The next run finds what work left, or what was there if none was done.
+abbrev pub LeavesToNext : {D E : Type 0} {g : Ghosts D} (e : Ghosts E) (task : Task) (start : Pair)
+    (books : Held (FileStore D g)) (worked : Result (Result ℕ End) (WithoutVolume D E g))
+    → EndsOver e task books start.volume worked → Type 0
+LeavesToNext e task start books (Ok result) it = RanLeadsOn e task start it.2.ran
+LeavesToNext e task start books (Err left) it = StaysBeside start left.conn
+
+-- The same if an index of version 3 was found on a connection. Else the next run finds what was
+-- there, if no other was found before.
 abbrev pub FoundLeavesToNext : {D E : Type 0} {g : Ghosts D} (e : Ghosts E) (task : Task)
-    (start : Pair) (result : Result ℕ End)
+    (start : Pair) (conn : Held (FileStore D g)) (result : Result ℕ End)
     (adopted : Result (BooksState (FileStore D g)) (Unopened (FileStore D g)))
-    → IfOk adopted (λ books. EndsOver e task books.conn start.volume result) → Type 0
-FoundLeavesToNext e task start result (Ok books) ended = LeavesToNext e task start ended
-FoundLeavesToNext e task start result (Err refused) ended = Unit {0}
+    → IfOk adopted (λ books. RunEndsOver e task books.conn start.volume result) → Type 0
+FoundLeavesToNext e task start conn result (Ok books) ended =
+    LeavesToNext e task start books.conn ended.worked ended.ends
+FoundLeavesToNext e task start conn result (Err refused) ended =
+    IsUnfound start.image (file_state conn) → StaysBeside start refused.conn
 
 -- how a run ends on a connection on which an index of version 3 is looked for
 pub record EndsOnPlaced {D E : Type 0} {g : Ghosts D} (e : Ghosts E) (task : Task)
     (conn : Held (FileStore D g)) (volume : List ℕ) (result : Result ℕ End) : Type 0 where
   pub adopted : Result (BooksState (FileStore D g)) (Unopened (FileStore D g))
   pub takes : TakesPlaced over_files conn adopted
-  pub ended : IfOk adopted (λ books. EndsOver e task books.conn volume result)
+  pub ended : IfOk adopted (λ books. RunEndsOver e task books.conn volume result)
   pub refused : IfErr adopted (λ it.
       IsErrAnd result (IsToldOf (end.Open it.why) (Some (unused.Refused it))))
   -- of whatever files this is the database
   pub leads : (image : Image) → HasDatabaseOf image conn
-      → FoundLeavesToNext e task (pair_of image volume) result adopted ended
+      → FoundLeavesToNext e task (pair_of image volume) conn result adopted ended
 
 -- The database was refused as one of another version than 1 and 2, and an index of version 3 was
 -- looked for in it.
@@ -206,7 +247,11 @@ pub record ComesOfGiven {D E : Type 0} (g : Ghosts D) (e : Ghosts E) (task : Tas
   pub opened : Result (Held (FileStore D g)) (FailedOpening D g)
   pub ends : OpeningEnds false start opened
   pub found : IfOk opened (HasDatabaseOf start)
+  pub stays : IfOk opened (λ conn. IsUnfound start (file_state conn))
   pub ended : IfOk opened (λ conn. EndsOnPlaced e task conn volume result)
+  -- the next run finds what was there
+  pub leads : IfErr opened (λ failed. IfSome failed.left (λ left.
+      UnusedStaysBeside (pair_of start volume) (unused.Shut left)))
   pub shut : IfErr opened (λ failed. result ≡ Err failed.why)
 
 -- The result of a run of this task on an index, by the path of its volume if one is given. Without
@@ -286,6 +331,15 @@ abbrev pub LooksElsewhere : {D E : Type 0} → Ghosts D → Ghosts E → Type 0
 LooksElsewhere g e = (task : Task) (start : Image) (volume : List ℕ) (result : Result ℕ End)
     → (it : ComesOfOther g e task start volume result)
     → HasCleanDisk (file_state it.left.conn) → IsToNone g start
+
+-- If no index of version 1 or 2 was found in two files, or none was made, one of version 3 in them
+-- is as it was.
+abbrev pub StaysIfUnused : {D : Type 0} → Ghosts D → Type 0
+StaysIfUnused {D} g =
+    (start : Pair) (left : Left D g)
+    → UnusedLeaves IsUnfound start.image left
+    ⊎ ((T : Tables) × UnusedLeaves (IsUnmade T) start.image left)
+    → UnusedStaysBeside start left
 
 -- Else a job without a volume ends as one on two files.
 abbrev pub EndsAsOnFiles : {D E K : Type 0} → Ghosts D → Ghosts E → SinkStep K → Type 0

@@ -5,6 +5,7 @@ ghost use Rattle.sqlite.specs.Files.{IsClosed, file_state, over_files};
 ghost use Rattle.sqlite.specs.Held.{AreDatabases, state};
 ghost use Rattle.sqlite.specs.Recovery.{Image};
 ghost use Rattle.sqlite.specs.State.{HasCleanDisk};
+ghost use Rattle.sqlite.specs.Tree.{Trees};
 ghost use Rattle.sqlite.specs.WalFiles.{image_at};
 ghost use Rattle.sqlite.specs.WalReads.{AreClean};
 ghost use Rattle.sqlite_trees.specs.View.{IsClean};
@@ -256,6 +257,8 @@ pub fn worked_on<S: Alter>(conn: Connection<S>) -> Connection<S>
         → IsTrue (S.Store.view result.store).is_numbered }
     ensures databases { HasCleanDisk (state S.Store result)
         → AreDatabases (S.Store.recovers result.store) }
+    ensures settled { (db : Trees) → IsTrue (state S.Store result).is_open
+        → (state S.Store result).may_leave db → db ≡ (state S.Store result).committed.trees }
 {
     let _outside = conn.is_autocommit();
     conn

@@ -1,14 +1,18 @@
 //! The index in a database of version 3 and its volume: opened, worked on, and closed.
 ghost use Rattle.std.specs.Prelude.{◌≡◌, ◌⊎◌, Err, Some, IfErr, IfOk, false};
+ghost use Rattle.sqlite.specs.Files.{file_state};
 ghost use Rattle.sqlite.specs.Held.{state};
+ghost use Rattle.sqlite.specs.State.{HasCleanDisk};
 ghost use Rattle.sqlite.specs.WalFiles.{image_at};
 ghost use Rattle.index_rules.specs.declared.open.OpenFault.TheVariants as open_fault;
 ghost use Rattle.index_tables.specs.BooksState.{IsHonest, IsWorking};
 ghost use Rattle.index.specs.declared.database.Left.TheVariants as left_is;
 ghost use Rattle.index.specs.declared.end.End.TheVariants as end_is;
 ghost use Rattle.index.specs.Jobs.{ComesOfRun};
+ghost use Rattle.index.specs.Openings.{OpensAgain};
 ghost use Rattle.index.specs.Pairs.{AreKept, ComesOfGiven, ComesOfOther, EndsOnPlaced, EndsOver};
 ghost use Rattle.index.specs.Pairs.{EndsOverDisk, IsToldOver, RanOver, WorksOver, placed_side};
+ghost use Rattle.index.specs.Pairs.{result_over};
 
 use crate::database::{
     self, Finished, Left, Unused, Work, close, end_of_unused, let_go, worked_on,
@@ -28,6 +32,19 @@ use index_tables::version::Version3;
 use index_volume_books::{Untaken, VolumeBooks};
 use sqlite::{Alter, Connection, FileFrom, FileStore, Files, Start};
 use sqlite_disk::Disk;
+
+/// An index of version 3 that was not worked on, for want of its volume.
+pub struct WithoutVolume<D: Disk, E> {
+    /// Why there was no volume.
+    pub why: End,
+    /// The connection to the index.
+    pub conn: Connection<FileStore<D>>,
+    /// The volume, if it was opened.
+    pub disk: Option<E>,
+}
+
+/// The result of work over a volume, or why there was none.
+type Worked<D, E> = Result<Result<u64, End>, WithoutVolume<D, E>>;
 
 /// Does work on the index in a database of version 3 and its volume, and closes the files of both. Returns the number
 /// that the work found.
@@ -49,7 +66,7 @@ pub fn work_on<S: Start, V: Start, W: Work>(
         (W.task work.old work.new) (image_at S.Start) V.Start.db result }
 {
     match open_existing(rt, paths.db, start) {
-        Ok(conn) => work_placed(rt, conn, paths, volume, work),
+        Ok(conn) => work_placed(rt, worked_on(conn), paths, volume, work),
         Err(failed) => Err(end_of_failed(failed)),
     }
 }
@@ -116,7 +133,7 @@ fn work_placed<D: Disk + Drop, V: Start, W: Work>(
         V.Start.db result }
 {
     match SqlBooks::adopt_placed(rt.alloc(), conn) {
-        Ok(books) => work_with(rt, books, paths, volume, work),
+        Ok(books) => ended_over(work_with(rt, books, paths, volume, work)),
         Err(left) => Err(end_of_unused(rt.alloc(), refused(left))),
     }
 }
@@ -128,25 +145,44 @@ fn work_with<D: Disk + Drop, V: Start, W: Work>(
     paths: Paths<'_>,
     volume: V,
     work: &mut W,
-) -> Result<u64, End>
+) -> Worked<D, FileFrom<V>>
     ensures { EndsOver ⟦<FileFrom<V> as Disk>⟧ (W.task work.old work.new) books.conn
         V.Start.db result }
 {
     match volume_path(rt, paths) {
         Ok(path) => match open_volume(rt, path.as_str(), volume) {
             Ok(files) => work_over(rt, books, path.as_str(), files, work),
-            Err(end) => leave(books, end),
+            Err(why) => Err(without(books, None, why)),
         },
-        Err(end) => leave(books, end),
+        Err(why) => Err(without(books, None, why)),
     }
 }
 
-/// Lets an index go without work on it.
-fn leave<D: Disk + Drop>(books: SqlBooks<FileStore<D>, Version3>, end: End) -> Result<u64, End>
-    ensures { result ≡ Err end }
+/// The connection to an index that is not worked on.
+fn without<D: Disk + Drop, E: Disk>(
+    books: SqlBooks<FileStore<D>, Version3>,
+    disk: Option<E>,
+    why: End,
+) -> WithoutVolume<D, E>
+    ensures is { result ≡ record { why = why; conn = books.conn; disk = disk } }
+    ensures again { HasCleanDisk (file_state books.conn) → OpensAgain books.conn.store }
 {
-    drop(books.into_connection());
-    Err(end)
+    let conn = worked_on(books.into_connection());
+    WithoutVolume { why, conn, disk }
+}
+
+/// The result of work, or why there was none. The files are dropped then.
+fn ended_over<D: Disk + Drop, E: Disk + Drop>(worked: Worked<D, E>) -> Result<u64, End>
+    ensures { result ≡ result_over worked }
+{
+    match worked {
+        Ok(ended) => ended,
+        Err(WithoutVolume { why, conn, disk }) => {
+            drop(conn);
+            drop(disk);
+            Err(why)
+        }
+    }
 }
 
 /// Does work on tables of version 3 over the opened files of their volume, and closes the files of both.
@@ -156,7 +192,7 @@ fn work_over<D: Disk + Drop, E: Disk + Drop, W: Work>(
     path: &str,
     files: Files<E>,
     work: &mut W,
-) -> Result<u64, End>
+) -> Worked<D, E>
     ensures { EndsOverDisk E.Disk (W.task work.old work.new) books.conn files.db result }
 {
     // The bytes are in the first of the volume's two files. The second is not used.
@@ -173,15 +209,14 @@ fn work_on_disk<D: Disk + Drop, E: Disk + Drop, W: Work>(
     path: &str,
     disk: E,
     work: &mut W,
-) -> Result<u64, End>
+) -> Worked<D, E>
     ensures { EndsOverDisk E.Disk (W.task work.old work.new) books.conn disk result }
 {
     match VolumeBooks::adopt(rt.alloc(), books, disk) {
-        Ok(books) => run_and_close(rt, books, path, work),
+        Ok(books) => Ok(run_and_close(rt, books, path, work)),
         Err(Untaken { why, books, disk }) => {
             let end = end_of_taking(rt.alloc(), path, why, &disk);
-            drop(disk);
-            leave(books, end)
+            Err(without(books, Some(disk), end))
         }
     }
 }
@@ -242,8 +277,10 @@ fn with_cause_of<E: Disk>(
 pub fn refused<D: Disk>(left: Unopened<FileStore<D>>) -> Unused<D>
     ensures why { result.why ≡ end_is.Open left.why }
     ensures left { result.left ≡ Some (left_is.Refused left) }
+    ensures again { HasCleanDisk (file_state left.conn) → OpensAgain left.conn.store }
 {
     let Unopened { why, conn } = left;
+    let conn = worked_on(conn);
     Unused {
         why: End::Open(why),
         left: Some(Left::Refused(Unopened { why, conn })),
