@@ -22,6 +22,7 @@ use Rattle.index_http.specs.Steps.{SinkStep}
 use Rattle.index_rules.specs.declared.open.OpenFault.TheVariants as open_fault
 use Rattle.index_rules.specs.FirstTables.{first_tables}
 use Rattle.index_rules.specs.Maps.{Bytes}
+use Rattle.index_rules.specs.Tables.{Tables}
 use Rattle.index_sql_opening.specs.Names.{has_any_of}
 use Rattle.index_sql_reads.specs.ConnectionTables.{tables_of}
 use Rattle.index_sql_schema.specs.Schema.{index_schema}
