@@ -98,48 +98,46 @@ module _ {S : Type 0} (rules : Rules S) (line text : Bytes) (long : longest_line
   long_state s s' (first, more, between, one, (none, same), whole) = same ∙ (one.1 long).1
 
   -- the line went, with the answer to a malformed line, and left the state
-  abbrev IsTold : S → Tables → Type 0
-  IsTold s T = (text ≡ with_feed bad_body_text) × rules.Shows s T
+  abbrev IsTold : S → S → Answered → Type 0
+  IsTold s reached later = (text ≡ with_feed bad_body_text)
+      × ((T : Tables) → rules.Shows reached T ⊎ LinesMayHaveMade rules later reached T → rules.Shows s T)
 
-  went_lines : (s : S) (T : Tables) (earlier : List Bytes) (told : Bytes) (later : Answered) (reached : S)
-      → line ∷ [] ≡ earlier ++ lines_in later → text ≡ told ++ text_by later → TextAnswersLines rules s earlier told reached
-      → (later ≡ []) ⊎ BeginsByFault rules later reached → rules.Shows reached T ⊎ LinesMayHaveMade rules later reached T → IsTold s T
-  went_lines s T [] told [] reached is whole answered shut left = absurd (cc is)
-  went_lines s T (one ∷ []) told [] reached is whole answered shut left =
-      let first : one ≡ line = cc in
-      let all = subst₂ (λ it told. TextAnswersLines rules s (it ∷ []) told reached) first (sym (append-nil told) ∙ sym whole) answered in (
+  went_lines : (s : S) (earlier : List Bytes) (told : Bytes) (later : Answered) (reached : S) → line ∷ [] ≡ earlier ++ lines_in later
+      → text ≡ told ++ text_by later → TextAnswersLines rules s earlier told reached
+      → (later ≡ []) ⊎ BeginsByFault rules later reached → IsTold s reached later
+  went_lines s earlier told [] reached is whole answered shut =
+      let all = subst₂ (λ lines told. TextAnswersLines rules s lines told reached) (sym (is ∙ append-nil earlier))
+      (sym (whole ∙ append-nil told)) answered in (
         long_text s reached all,
-        elim left [ inl shows ↦ subst (λ it. rules.Shows it T) (long_state s reached all) shows | inr made ↦ absurd made ],
+        λ T left. elim left [ inl shows ↦ subst (λ it. rules.Shows it T) (long_state s reached all) shows | inr made ↦ absurd made ],
       )
-  went_lines s T (one ∷ other ∷ earlier) told [] reached is whole answered shut left =
-      let rest : [] ≡ other ∷ (earlier ++ []) = cc in absurd (cc rest)
-  went_lines s T earlier told (one ∷ later) reached is whole answered (inl none) left = absurd (cc none)
-  went_lines s T [] told ((one, reply) ∷ []) reached is whole answered (inr begins) left =
+  went_lines s earlier told (one ∷ later) reached is whole answered (inl none) = absurd (cc none)
+  went_lines s [] told ((one, reply) ∷ []) reached is whole answered (inr begins) =
       let first : one ≡ line = cc in
       let answer = subst (λ it. TextAnswersLine rules it reached reply begins.0) first begins.1 in (
         whole_text reply [] text (answer.1 long).0 refl (whole ∙ ap (λ it. it ++ text_by ((one, reply) ∷ [])) answered.0),
-        elim left [
+        λ T left. elim left [
           | inl shows ↦ subst (λ it. rules.Shows it T) answered.1 shows
           | inr (inl made) ↦ absurd (made.1 (subst (λ it. longest_line < length it) (sym first) long))
           | inr (inr made) ↦ absurd made
         ],
       )
-  went_lines s T [] told ((one, reply) ∷ (other, more) ∷ later) reached is whole answered (inr begins) left =
+  went_lines s [] told ((one, reply) ∷ (other, more) ∷ later) reached is whole answered (inr begins) =
       let rest : [] ≡ other ∷ lines_in later = cc in absurd (cc rest)
-  went_lines s T (before ∷ earlier) told ((one, reply) ∷ later) reached is whole answered (inr begins) left =
+  went_lines s (before ∷ earlier) told ((one, reply) ∷ later) reached is whole answered (inr begins) =
       let rest : [] ≡ earlier ++ one ∷ lines_in later = cc in
       absurd (let size = ap length rest in let sum = length-append earlier (one ∷ lines_in later) in omega (arith, size, sum))
 
   pub refutes_long_line : RefutesLongLine rules line text
   refutes_long_line = record {
     told = λ s s' other it. other (long_text s s' it);
-    front = λ s T other it. other (went s T it).0;
+    front = λ s other it. other (went s _ it).0;
     changed = λ s s' changed it. changed (long_state s s' it);
-    crash = λ s T none it. none (went s T it).1;
+    crash = λ s T none it. none ((went s _ it).1 T (it.crash T refl));
   }
     where
-      went : (s : S) (T : Tables) → LinesWent rules (line ∷ []) text s (λ left. left ≡ T) → IsTold s T
-      went s T it = went_lines s T it.earlier it.told it.later it.reached it.all it.whole it.answered it.shut (it.crash T refl)
+      went : (s : S) (MayLeave : Tables → Type 0) (it : LinesWent rules (line ∷ []) text s MayLeave) → IsTold s it.reached it.later
+      went s MayLeave it = went_lines s it.earlier it.told it.later it.reached it.all it.whole it.answered it.shut
 
 -- ---- numbers
 

@@ -1,5 +1,5 @@
 -- Connections that went another way than the rules say, and calls that a crash made of none, do not meet the words of the contracts.
-use Rattle.index.proofs.Words.{◌≡◌, ◌⊎◌, List, [], ◌∷◌, ◌++◌, refl, sym, subst, inl, inr, Exchange, Rules, Tables}
+use Rattle.index.proofs.Words.{◌≡◌, ◌⊎◌, List, [], ◌∷◌, ◌++◌, refl, sym, ap, subst, subst₂, inl, inr, Exchange, Rules, Tables}
 use Rattle.index_cli.specs.Serving.{ExchangeIsAnswered, ExchangeShowsFailure, ExchangesAreAnswered}
 use Rattle.index_cli.specs.Went.{AcceptsNothing, BeginsByFailure, MayHaveMade, Went}
 use Rattle.index.specs.Refuted.{RefutesWent}
@@ -10,62 +10,52 @@ module _ {S : Type 0} (rules : Rules S) (s : S) (T : Tables) where
 
   none_left : (later earlier : List Exchange) (reached : S) → [] ≡ later ++ earlier → ExchangesAreAnswered rules earlier s reached
       → Left reached later → rules.Shows s T
-  none_left [] [] reached is same (inl shows) = subst (λ it. rules.Shows it T) same shows
-  none_left [] [] reached is same (inr made) = absurd made
-  none_left [] (one ∷ earlier) reached is answered left = absurd (cc is)
+  none_left [] earlier reached is answered (inl shows) =
+      subst (λ it. rules.Shows it T) (subst (λ it. ExchangesAreAnswered rules it s reached) (sym is) answered) shows
+  none_left [] earlier reached is answered (inr made) = absurd made
   none_left (one ∷ later) earlier reached is answered left = absurd (cc is)
 
-  -- a connection was answered, and the tables show what came of it
-  abbrev IsMade : Exchange → Type 0
-  IsMade exchange = (s' : S) × ExchangeIsAnswered rules exchange s s' × rules.Shows s' T
+  of_none : (reached : S) (later : List Exchange) → later ≡ [] → Left reached later → rules.Shows reached T
+  of_none reached later none left = elim (subst (Left reached) none left) [ inl shows ↦ shows | inr made ↦ absurd made ]
 
-  -- or it shows a failure, no call of it was accepted, and the tables show the state, or have its call
-  abbrev IsShut : Exchange → Type 0
-  IsShut exchange = AcceptsNothing exchange × ExchangeShowsFailure rules exchange s × Left s (exchange ∷ [])
+  -- a connection was answered, or it shows a failure and no call of it was accepted
+  abbrev IsMade : Exchange → List Exchange → S → Type 0
+  IsMade exchange later reached = ExchangeIsAnswered rules exchange s reached × (later ≡ [])
 
-  was_made : (exchange : Exchange) (between reached : S) → between ≡ s → ExchangeIsAnswered rules exchange between reached
-      → Left reached [] → IsMade exchange
-  was_made exchange between reached same answers (inl shows) =
-      (reached, subst (λ it. ExchangeIsAnswered rules exchange it reached) same answers, shows)
-  was_made exchange between reached same answers (inr made) = absurd made
-
-  was_shut : (exchange : Exchange) (reached : S) → reached ≡ s → BeginsByFailure rules (exchange ∷ []) reached
-      → Left reached (exchange ∷ []) → IsShut exchange
-  was_shut exchange reached same (none, inl fails) left = (
-    none,
-    subst (λ it. ExchangeShowsFailure rules exchange it) same fails.1,
-    subst (λ it. Left it (exchange ∷ [])) same left,
-  )
-  was_shut exchange reached same (none, inr begins) left = absurd begins
+  abbrev IsShut : Exchange → List Exchange → S → Type 0
+  IsShut exchange later reached =
+      AcceptsNothing exchange × ExchangeShowsFailure rules exchange s × (reached ≡ s) × (later ≡ exchange ∷ [])
 
   made_or_shut : (exchange : Exchange) (later earlier : List Exchange) (reached : S) → exchange ∷ [] ≡ later ++ earlier
-      → ExchangesAreAnswered rules earlier s reached → (later ≡ []) ⊎ BeginsByFailure rules later reached → Left reached later
-      → IsMade exchange ⊎ IsShut exchange
-  made_or_shut exchange [] [] reached is answered shut left = absurd (cc is)
-  made_or_shut exchange [] (one ∷ []) reached is (between, same, answers) shut left =
-      let first : exchange ≡ one = cc in
-      inl (was_made exchange between reached same (subst (λ it. ExchangeIsAnswered rules it between reached) (sym first) answers) left)
-  made_or_shut exchange [] (one ∷ other ∷ earlier) reached is answered shut left = let rest : [] ≡ other ∷ earlier = cc in absurd (cc rest)
-  made_or_shut exchange (one ∷ later) earlier reached is answered (inl none) left = absurd (cc none)
-  made_or_shut exchange (one ∷ []) [] reached is same (inr begins) left =
-      let first : exchange ≡ one = cc in
-      inr (was_shut exchange reached same (subst (λ it. BeginsByFailure rules (it ∷ []) reached) (sym first) begins)
-      (subst (λ it. Left reached (it ∷ [])) (sym first) left))
-  made_or_shut exchange (one ∷ []) (other ∷ earlier) reached is answered (inr begins) left =
+      → ExchangesAreAnswered rules earlier s reached → (later ≡ []) ⊎ BeginsByFailure rules later reached
+      → IsMade exchange later reached ⊎ IsShut exchange later reached
+  made_or_shut exchange [] earlier reached is answered shut =
+      let one = subst (λ it. ExchangesAreAnswered rules it s reached) (sym is) answered in
+      inl (subst (λ it. ExchangeIsAnswered rules exchange it reached) one.1 one.2, refl)
+  made_or_shut exchange (one ∷ later) earlier reached is answered (inl none) = absurd (cc none)
+  made_or_shut exchange (one ∷ []) [] reached is same (inr begins) =
+      let first : one ≡ exchange = cc in
+      let fails : ExchangeShowsFailure rules one reached = elim begins.1 [ inl fails ↦ fails.1 | inr none ↦ absurd none ] in
+      inr (subst AcceptsNothing first begins.0, subst₂ (ExchangeShowsFailure rules) first same fails, same, ap (λ it. it ∷ []) first)
+  made_or_shut exchange (one ∷ []) (other ∷ earlier) reached is answered (inr begins) =
       let rest : [] ≡ other ∷ earlier = cc in absurd (cc rest)
-  made_or_shut exchange (one ∷ other ∷ later) earlier reached is answered (inr begins) left =
+  made_or_shut exchange (one ∷ other ∷ later) earlier reached is answered (inr begins) =
       let rest : [] ≡ other ∷ (later ++ earlier) = cc in absurd (cc rest)
 
   pub refutes_went : (exchange : Exchange) → RefutesWent rules exchange s T
   refutes_went exchange = record {
     made = λ other it. other (none_left it.later it.earlier it.reached it.all it.answered (it.crash T refl));
-    told = λ other it. elim (goes it) [ inl made ↦ other made.0 made.1 | inr shut ↦ other shut.1.later shut.1.answers ];
-    lost = λ accepts other it. elim (goes it) [ inl made ↦ other made.0 made.1 made.2 | inr shut ↦ accepts shut.0 ];
-    twice = λ none stays other it. elim (goes it) [
-      | inl made ↦ other made.0 made.1 made.2
-      | inr shut ↦ elim shut.2 [ inl shows ↦ stays shows | inr made ↦ none made ]
+    told = λ other it. elim (goes _ it) [ inl made ↦ other it.reached made.0 | inr shut ↦ other shut.1.later shut.1.answers ];
+    lost = λ accepts other it. elim (goes _ it) [
+      | inl made ↦ other it.reached made.0 (of_none it.reached it.later made.1 (it.crash T refl))
+      | inr shut ↦ accepts shut.0
+    ];
+    twice = λ none stays other it. elim (goes _ it) [
+      | inl made ↦ other it.reached made.0 (of_none it.reached it.later made.1 (it.crash T refl))
+      | inr shut ↦ elim (subst₂ Left shut.2 shut.3 (it.crash T refl)) [ inl shows ↦ stays shows | inr made ↦ none made ]
     ];
   }
     where
-      goes : Went rules (exchange ∷ []) s (λ left. left ≡ T) → IsMade exchange ⊎ IsShut exchange
-      goes it = made_or_shut exchange it.later it.earlier it.reached it.all it.answered it.shut (it.crash T refl)
+      goes : (MayLeave : Tables → Type 0) (it : Went rules (exchange ∷ []) s MayLeave)
+          → IsMade exchange it.later it.reached ⊎ IsShut exchange it.later it.reached
+      goes MayLeave it = made_or_shut exchange it.later it.earlier it.reached it.all it.answered it.shut

@@ -125,7 +125,7 @@ pub record RefutesWent {S : Type 0} (rules : Rules S) (exchange : Exchange) (s :
   pub made : (¬ rules.Shows s T) → ¬ Went rules [] s (λ left. left ≡ T)
   -- the reply is of no state that the rules make of this one: not that of another history either
   pub told : ((s' : S) → ¬ ExchangeIsAnswered rules exchange s s')
-      → ¬ Went rules (exchange ∷ []) s (λ left. left ≡ T)
+      → ¬ Went rules (exchange ∷ []) s (λ left. ⊥)
   -- an accepted call is lost, whether before a fault or after one
   pub lost : (¬ AcceptsNothing exchange)
       → ((s' : S) → ExchangeIsAnswered rules exchange s s' → ¬ rules.Shows s' T)

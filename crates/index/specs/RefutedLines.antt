@@ -69,8 +69,7 @@ IsOtherText text = ¬ (text ≡ with_feed bad_body_text)
 pub record RefutesLongLine {S : Type 0} (rules : Rules S) (line text : Bytes) : Type 0 where
   -- another answer
   pub told : (s s' : S) → IsOtherText text → ¬ TextAnswersLines rules s (line ∷ []) text s'
-  pub front : (s : S) (T : Tables) → IsOtherText text
-      → ¬ LinesWent rules (line ∷ []) text s (λ left. left ≡ T)
+  pub front : (s : S) → IsOtherText text → ¬ LinesWent rules (line ∷ []) text s (λ left. ⊥)
   -- another state, and tables that a crash can't leave without a call
   pub changed : (s s' : S) → (¬ (s' ≡ s)) → ¬ TextAnswersLines rules s (line ∷ []) text s'
   pub crash : (s : S) (T : Tables) → (¬ rules.Shows s T)
