@@ -4,6 +4,7 @@ pub mod FaultLemmas
 pub mod FilesLemmas
 pub mod FreshLemmas
 pub mod GoesOnLemmas
+pub mod InitLemmas
 pub mod JobLemmas
 pub mod OfficeLemmas
 pub mod OneFileLemmas

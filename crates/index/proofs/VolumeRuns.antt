@@ -9,8 +9,8 @@ use Rattle.sqlite.specs.Effect.{IsDatabase}
 use Rattle.index_sql_schema.proofs.BearerLemmas.{one_bearer}
 use Rattle.index_volume_books.specs.Through.{BothClean, both_tables, left_of}
 use Rattle.index.specs.declared.pair.WithoutVolume.{WithoutVolume}
-use Rattle.index.specs.InVolume.{AllClean, AreWhole}
-use Rattle.index.specs.Pairs.{EndsOver, HasDatabaseOf, IsWithoutVolume, LeavesToNext, StaysBeside, TookAndRan}
+use Rattle.index.specs.InVolume.{AllClean, AreWhole, HasDatabaseOf}
+use Rattle.index.specs.Pairs.{EndsOver, IsWithoutVolume, LeavesToNext, StaysBeside, TookAndRan}
 use Rattle.index.proofs.RunLemmas.{clean_before, found_among, only_of, working_of}
 use Rattle.index.proofs.DoneLemmas.{cut_to}
 use Rattle.index.proofs.ThereLemmas.{no_proof, not_left, not_same, not_these}

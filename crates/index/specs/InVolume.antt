@@ -1,8 +1,8 @@
 -- An index in two files and a volume: what a run finds there, and what is left.
 use Rattle.std.specs.Prelude.{◌≡◌, ◌⊎◌, ℕ, List, IsTrue, length}
 use Rattle.sqlite.specs.Closing.{HoldsAlone}
-use Rattle.sqlite.specs.Effect.{Database}
-use Rattle.sqlite.specs.Files.{image_of}
+use Rattle.sqlite.specs.Effect.{Database, IsDatabase}
+use Rattle.sqlite.specs.Files.{file_state, image_of}
 use Rattle.sqlite.specs.Held.{Held}
 use Rattle.sqlite.specs.Recovery.{Image}
 use Rattle.sqlite.specs.WalFiles.{outcomes}
@@ -12,6 +12,7 @@ use Rattle.sqlite_disk.specs.declared.Disk.{Ghosts}
 use Rattle.sqlite_disk.specs.declared.Files.{Files}
 use Rattle.index_rules.specs.Tables.{Tables}
 use Rattle.index_tables.specs.Adopted.{IsCurrent}
+use Rattle.index_tables.specs.BooksState.{IsWorking}
 use Rattle.index_tables.specs.Reopened.{MayLeave}
 use Rattle.index_volume_books.specs.Over.{Fits, over}
 use Rattle.index.specs.Keeping.{Keeping}
@@ -82,3 +83,15 @@ pub record IsLeftPair {D E : Type 0} {g : Ghosts D} (e : Ghosts E) (last : Held 
     (disk : E) (next : Pair) : Type 0 where
   pub image : MayLeave last next.image
   pub volume : e.may_leave disk next.volume
+
+-- ---- a connection to the database of two files
+
+-- the files hold the database on this connection, and no other
+pub record IsDatabaseOf {D : Type 0} {g : Ghosts D} (image : Image) (conn : Held (FileStore D g))
+    : Type 0 where
+  pub sound : IsDatabase (file_state conn).now
+  pub only : HoldsOnly image (file_state conn).now
+
+-- the same, as long as the connection works
+abbrev pub HasDatabaseOf : {D : Type 0} {g : Ghosts D} → Image → Held (FileStore D g) → Type 0
+HasDatabaseOf image conn = IsWorking (file_state conn) → IsDatabaseOf image conn

@@ -7,6 +7,7 @@ pub mod InVolume
 pub mod Jobs
 pub mod Keeping
 pub mod Openings
+pub mod NewPairs
 pub mod Pairs
 pub mod Printed
 pub mod Refuted

@@ -4,7 +4,6 @@ use Rattle.std.specs.Prelude.{◌≡◌, ◌⊎◌, ◌↔◌, Bool, ℕ, List, 
 use Rattle.std.specs.Prelude.{IfErr, IfOk, IfSome, IsErrAnd, IsOk, IsTrue, false, true}
 use Rattle.std.specs.declared.process.ExitCode.{ExitCode}
 use Rattle.sqlite.specs.Closing.{IsCopied}
-use Rattle.sqlite.specs.Effect.{IsDatabase}
 use Rattle.sqlite.specs.declared.FileStore.{FileStore}
 use Rattle.sqlite.specs.Files.{IsClosed, file_state, over_files}
 use Rattle.sqlite.specs.Held.{Held, state}
@@ -17,19 +16,14 @@ use Rattle.sqlite_disk.specs.declared.Disk.{Ghosts}
 use Rattle.sqlite_disk.specs.declared.Files.{Files}
 use Rattle.index_args.specs.declared.job.ArgsEnd.{ArgsEnd}
 use Rattle.index_args.specs.declared.job.Job.{Job}
-use Rattle.index_digest.specs.Digest.{read_digest}
 use Rattle.index_http.specs.Steps.{SinkStep}
 use Rattle.index_rules.specs.declared.open.OpenFault.TheVariants as open_fault
-use Rattle.index_rules.specs.FirstTables.{first_tables}
 use Rattle.index_rules.specs.Maps.{Bytes}
 use Rattle.index_rules.specs.Tables.{Tables}
-use Rattle.index_sql_opening.specs.Names.{has_any_of}
 use Rattle.index_sql_reads.specs.ConnectionTables.{tables_of}
-use Rattle.index_sql_schema.specs.Schema.{index_schema}
 use Rattle.index_tables.specs.declared.opening.Unopened.{Unopened}
 use Rattle.index_tables.specs.Adopted.{IsOurs}
 use Rattle.index_tables.specs.BooksState.{BooksState, IsHonest, IsWorking, Leaves}
-use Rattle.index_tables.specs.Opened.{AreNew}
 use Rattle.index_tables.specs.Placed.{TakesPlaced}
 use Rattle.index_volume_books.specs.Over.{Fits}
 use Rattle.index_volume_books.specs.Taken.{AreTaken}
@@ -42,16 +36,15 @@ use Rattle.index.specs.declared.failed_opening.FailedOpening.{FailedOpening}
 use Rattle.index.specs.declared.pair.WithoutVolume.{WithoutVolume}
 use Rattle.index.specs.declared.end.End.{End}
 use Rattle.index.specs.declared.end.End.TheVariants as end
-use Rattle.index.specs.Chains.{CrashLeavesFiles, CreatedRun, LeadsOn, UnusedLeavesFiles}
-use Rattle.index.specs.Chains.{UnusedRun, WorkRun}
+use Rattle.index.specs.Chains.{CrashLeavesFiles, LeadsOn, UnusedLeavesFiles, UnusedRun}
+use Rattle.index.specs.Chains.{WorkRun}
 use Rattle.index.specs.Ends.{closing_of, end_by, is_fault_end, is_store}
-use Rattle.index.specs.InVolume.{AllClean, IsLeftPair, IsNextPair, IsNextOf, IsNextVolume, Pair}
-use Rattle.index.specs.InVolume.{in_volume, pair_of}
+use Rattle.index.specs.InVolume.{AllClean, HasDatabaseOf, IsLeftPair, IsNextPair, IsNextVolume}
+use Rattle.index.specs.InVolume.{Pair, in_volume, pair_of}
+use Rattle.index.specs.NewPairs.{ComesOfPlacedInit}
 use Rattle.index.specs.Jobs.{ComesOfInit, ComesOfRun, Coming, JobEnds, JobEndsBy, ProgramEndsBy}
-use Rattle.index.specs.Openings.{HasSumsAs, HoldsOnly, IsBadFirstUserByHex, IsOpenedOn, IsToldOf}
-use Rattle.index.specs.Openings.{IsUnfound, IsUnmade, IsWhyUnfound, IsWhyUnused, OpeningEnds}
-use Rattle.index.specs.Openings.{OpensAgain}
-use Rattle.index.specs.Openings.{UnusedLeaves}
+use Rattle.index.specs.Openings.{IsOpenedOn, IsToldOf, IsUnfound, IsUnmade, IsWhyUnfound}
+use Rattle.index.specs.Openings.{IsWhyUnused, OpeningEnds, OpensAgain, UnusedLeaves}
 use Rattle.index.specs.SecondLines.{volume_of_job}
 use Rattle.index.specs.Tasks.{Done, Task, TaskEnds, WasDone, WasDoneInPart}
 
@@ -86,16 +79,6 @@ pub record AreKept {S E : Type 0} (g : store.Ghosts S) (e : Ghosts E) (conn : He
   pub end_at : ℕ
   pub placed : IsHonest 3 (state g conn) → Fits end_at (tables_of g conn)
   pub kept : IsTrue (e.is_clean disk) → Keeps end_at (e.seen disk) (e.may_leave disk)
-
--- the files hold the database on this connection, and no other
-pub record IsDatabaseOf {D : Type 0} {g : Ghosts D} (image : Image) (conn : Held (FileStore D g))
-    : Type 0 where
-  pub sound : IsDatabase (file_state conn).now
-  pub only : HoldsOnly image (file_state conn).now
-
--- the same, as long as the connection works
-abbrev pub HasDatabaseOf : {D : Type 0} {g : Ghosts D} → Image → Held (FileStore D g) → Type 0
-HasDatabaseOf image conn = IsWorking (file_state conn) → IsDatabaseOf image conn
 
 -- ---- how a run ends
 
@@ -264,36 +247,7 @@ ComesByVolume g e None start volume task result =
 ComesByVolume g e (Some path) start volume task result =
     ComesOfGiven g e task start volume result
 
--- ---- how an init ends
-
--- a new index of version 3 with this user and the digest of a token was made on a connection, and
--- its files were closed
-pub record MadePlaced {D : Type 0} {g : Ghosts D} (user token : Bytes) (conn : Held (FileStore D g))
-    (result : Result (Unit {0}) End) : Type 0 where
-  pub books : BooksState (FileStore D g)
-  pub new : AreNew 3 over_files (first_tables user token) conn books
-  pub free : has_any_of (file_state conn).now.schema index_schema.tables ≡ false
-  pub closed : Result (Files D) (Unclosed D g)
-  pub copied : IfOk closed (λ it. AreClean g it.log it.db → IsCopied books.conn it)
-  pub kept : IfErr closed (λ it. IsClosed books.conn it.store)
-  pub told : result ≡ closing_of closed
-  -- the next run finds the new index, whatever its volume holds
-  pub leads : (start : Pair) → HasDatabaseOf start.image conn → IfOk closed (λ files.
-      AreClean g files.log files.db → (next : Pair) → IsNextOf g files next.image
-      → LeadsOn in_volume (CreatedRun user token) start next)
-
--- an init with a volume, with this user, these hex digits of the token's digest, and page sums or
--- none, on two files that held this
-pub record ComesOfPlacedInit {D : Type 0} (g : Ghosts D) (user digits : Bytes) (page_sums : Bool)
-    (start : Image) (result : Result (Unit {0}) End) : Type 0 where
-  -- the first user is refused before a file is opened
-  pub bad_first_user : result ≡ Err (end.Open open_fault.BadFirstUser)
-      ↔ IsBadFirstUserByHex user digits
-  pub made : IsOk result → (digest : Bytes) × (read_digest digits ≡ Some digest)
-      × (conn : Held (FileStore D g)) × IsOpenedOn start conn
-      × HasDatabaseOf start conn
-      × (HasCleanDisk (file_state conn) → HasSumsAs page_sums start conn)
-      × MadePlaced user digest conn result
+-- ---- how a job and the program end
 
 -- the result of an init, by the path of the volume if one is given
 abbrev pub MakesByVolume : {D Path : Type 0} → Ghosts D → Option Path → Image → Bytes → Bytes
@@ -302,8 +256,6 @@ MakesByVolume g None start user digits page_sums result =
     ComesOfInit g user digits page_sums start result
 MakesByVolume g (Some path) start user digits page_sums result =
     ComesOfPlacedInit g user digits page_sums start result
-
--- ---- how a job and the program end
 
 -- the results of jobs on two files that held this, and a volume that held this
 abbrev pub on_pair : {D E : Type 0} → Ghosts D → Ghosts E → Image → List ℕ → Coming

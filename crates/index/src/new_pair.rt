@@ -1,13 +1,10 @@
 //! A new index in a database of version 3, and its new volume.
-ghost use Rattle.std.specs.Prelude.{◌≡◌, Err, IfErr, IsOk, IsTrue, false};
+ghost use Rattle.std.specs.Prelude.{◌≡◌, IfErr, IsTrue, false};
 ghost use Rattle.sqlite.specs.WalFiles.{image_at};
-ghost use Rattle.index_rules.specs.FirstTables.{IsBadFirstUser};
-ghost use Rattle.index_rules.specs.declared.open.OpenFault.TheVariants as open_fault;
-ghost use Rattle.index.specs.declared.end.End.TheVariants as end_is;
 ghost use Rattle.index.specs.Ends.{is_fault_end};
-ghost use Rattle.index.specs.Pairs.{ComesOfPlacedInit, MadePlaced};
+ghost use Rattle.index.specs.NewPairs.{ComesOfPlacedInit, IsToldOfMade, MakesBeside, MakesPlaced};
 
-use crate::database::{close, end_of_unused, let_go};
+use crate::database::{Closed, close, end_of_unused, let_go, worked_on};
 use crate::end::End;
 use crate::opening::{first_token_digest, open};
 use crate::pair::{end_of_failed, refused};
@@ -21,6 +18,10 @@ use index_tables::books::SqlBooks;
 use index_tables::version::Version3;
 use sqlite::{Connection, FileFrom, FileStore, Start};
 use sqlite_disk::Disk;
+use std::alloc::Global;
+
+/// The result of closing the files of a new index, or the database in which none was made.
+type Made<D> = Result<Closed<D>, Unopened<FileStore<D>>>;
 
 /// Makes a new index of version 3 with one user, and a volume for the bytes of its files.
 ///
@@ -46,7 +47,10 @@ pub fn create<S: Start, V: Start>(
     };
     match new_path(rt, paths) {
         Ok(path) => match open(rt, paths.db, start, page_sums) {
-            Ok(conn) => create_beside(rt, conn, path.as_str(), volume, user, token),
+            Ok(conn) => {
+                let made = create_beside(rt, conn, path.as_str(), volume, user, token);
+                end_of_made(rt.alloc(), made)
+            }
             Err(failed) => Err(end_of_failed(failed)),
         },
         Err(end) => Err(end),
@@ -69,7 +73,8 @@ fn new_path(rt: &HostRuntime, paths: Paths<'_>) -> Result<String, End>
     }
 }
 
-/// Makes a new index of version 3 in an empty database, and its volume before it.
+/// Makes a new index of version 3 in an empty database, and its volume before it. If no volume could be made, returns
+/// why, and the connection.
 fn create_beside<D: Disk + Drop, V: Start>(
     rt: &HostRuntime,
     conn: Connection<FileStore<D>>,
@@ -77,46 +82,67 @@ fn create_beside<D: Disk + Drop, V: Start>(
     volume: V,
     user: &str,
     token: Digest256,
-) -> Result<(), End>
+) -> Result<Made<D>, (End, Connection<FileStore<D>>)>
     requires outside { conn.in_transaction ≡ false }
-    ensures made { IsOk result → MadePlaced user.now token conn result }
-    ensures bad_first_user { result ≡ Err (end_is.Open open_fault.BadFirstUser)
-        → IsBadFirstUser user.now token }
+    ensures { MakesBeside user.now token conn result }
 {
     // A database that is not empty is refused before a file is made.
     if !is_blank(&conn) {
-        return create_in(rt, conn, user, token);
+        return Ok(create_in(rt, conn, user, token));
     }
     match make_volume(rt, path, volume) {
         Ok(files) => {
             let made = create_in(rt, conn, user, token);
             drop(files);
-            made
+            Ok(made)
         }
-        Err(end) => Err(end),
+        Err(why) => Err((why, worked_on(conn))),
     }
 }
 
-/// Makes a new index of version 3 in an empty database, and closes its files.
+/// Makes a new index of version 3 in an empty database, and closes its files. If it fails, the database is as it was.
 fn create_in<D: Disk + Drop>(
     rt: &HostRuntime,
     conn: Connection<FileStore<D>>,
     user: &str,
     token: Digest256,
-) -> Result<(), End>
+) -> Made<D>
     requires outside { conn.in_transaction ≡ false }
-    ensures made { IsOk result → MadePlaced user.now token conn result }
-    ensures bad_first_user { result ≡ Err (end_is.Open open_fault.BadFirstUser)
-        → IsBadFirstUser user.now token }
+    ensures { MakesPlaced user.now token conn result }
 {
+    let first = worked_on(conn);
     let made: Result<SqlBooks<FileStore<D>, Version3>, Unopened<FileStore<D>>> = SqlBooks::create(
         rt.alloc(),
-        conn,
+        first,
         user.as_bytes(),
         token,
     );
     match made {
-        Ok(books) => let_go(close(books.into_connection())),
-        Err(left) => Err(end_of_unused(rt.alloc(), refused(left))),
+        Ok(books) => {
+            let last = worked_on(books.into_connection());
+            Ok(close(last))
+        }
+        Err(left) => {
+            let Unopened { why, conn } = left;
+            let conn = worked_on(conn);
+            Err(Unopened { why, conn })
+        }
+    }
+}
+
+/// The result of an init, by that of closing, or why no index was made. The files are dropped.
+fn end_of_made<D: Disk + Drop>(
+    alloc: Global,
+    made: Result<Made<D>, (End, Connection<FileStore<D>>)>,
+) -> Result<(), End>
+    ensures { IsToldOfMade made result }
+{
+    match made {
+        Ok(Ok(closed)) => let_go(closed),
+        Ok(Err(left)) => Err(end_of_unused(alloc, refused(left))),
+        Err((why, conn)) => {
+            drop(conn);
+            Err(why)
+        }
     }
 }
