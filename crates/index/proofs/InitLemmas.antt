@@ -1,18 +1,17 @@
 -- An init with a volume leads from the files that it found to the next ones.
-use Rattle.index.proofs.Words.{◌≡◌, ◌∙◌, ap, inl, inr, false, refl, subst, sym, ℕ, List, Result, Ok, Err, Some, IfErr, IfOk, IsTrue}
-use Rattle.index.proofs.Words.{is_ok, true≢false, ∥∥₁_map, FileStore, Database, file_state, over_files, Held, Image, HasCleanDisk, Trees}
+use Rattle.index.proofs.Words.{◌≡◌, ◌∙◌, ap, inl, inr, false, refl, subst, sym, ℕ, List, Result, Ok, Err, Some, IfErr}
+use Rattle.index.proofs.Words.{true≢false, ∥∥₁_map, FileStore, Database, file_state, over_files, Held, Image, HasCleanDisk, Trees}
 use Rattle.index.proofs.Words.{Ghosts, Files, Tables, Bytes, Unopened, Unclosed, first_tables, IsCreated, HoldsNone, HoldsPlaced, Pair}
-use Rattle.index.proofs.Words.{in_volume, LeadsOn, InitRun, IsOpenedOn, HoldsOnly, OpensAgain, BooksState, AreNew, IsWorking, IsHonest}
-use Rattle.index.proofs.Words.{IsClean, IsClosed, IsOpened, FindsIn, MayLeave, OpenFault, tables_of, has_any_of, index_schema, over, End, Open, BadFirstUser}
+use Rattle.index.proofs.Words.{in_volume, LeadsOn, InitRun, IsOpenedOn, OpensAgain, BooksState, AreNew, IsWorking}
+use Rattle.index.proofs.Words.{IsClean, IsClosed, IsOpened, FindsIn, MayLeave, OpenFault, tables_of, has_any_of, index_schema, over}
+use Rattle.index.proofs.Words.{End, Open, BadFirstUser}
 use Rattle.index.proofs.Words.{IsBadFirstUser, is_fault_end, closing_of, IsErrAnd, IsToldOf, Leftover, CleanShutLeaves, Shut, cases_Bool}
 use Rattle.std.specs.Prelude.{IsOk}
-use Rattle.index_sql_schema.specs.Schema.{no_schema}
 use Rattle.index_tables.specs.Opened.{IsUnopened}
 use Rattle.index.specs.declared.database.Left.TheVariants.{Refused}
 use Rattle.index.specs.Chains.{UnusedLeavesFiles}
 use Rattle.index.specs.InVolume.{AreWhole, pair_of}
 use Rattle.index.specs.NewPairs.{IsToldOfMade, MadePlaced, MakesBeside, UnmadeLeadsOn}
-use Rattle.index.specs.Openings.{Refused as RefusedAs}
 use Rattle.index.specs.Runs.{CrashLeavesDatabase}
 use Rattle.index.proofs.ChainLemmas.{keeps_refused, only_as, shut_leads}
 use Rattle.index.proofs.PairLemmas.{closed_fault, refused_for_user}
@@ -158,8 +157,8 @@ module _ {D : Type 0} {g : Ghosts D} where
     -- ---- what is told of an init
 
     -- it ends for a first user only if that is not valid
-    pub bad_user_told : (conn : Held (FileStore D g)) (made : Making D g) (result : Result (Unit {0}) End) → MakesBeside user token conn made
-        → IsToldOfMade made result → result ≡ Err (Open BadFirstUser) → IsBadFirstUser user token
+    pub bad_user_told : (conn : Held (FileStore D g)) (made : Making D g) (result : Result (Unit {0}) End)
+        → MakesBeside user token conn made → IsToldOfMade made result → result ≡ Err (Open BadFirstUser) → IsBadFirstUser user token
     bad_user_told conn (Ok (Ok closed)) result it told is = absurd (closed_fault closed it.fault (sym told ∙ is))
     bad_user_told conn (Ok (Err left)) result it told is =
         it.bad_first_user (refused_for_user left (Open BadFirstUser)

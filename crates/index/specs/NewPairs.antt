@@ -46,12 +46,12 @@ pub record MadePlaced {D : Type 0} {g : Ghosts D} (user token : Bytes) (conn : H
   pub leads : (start : Pair) → HasDatabaseOf start.image conn → IfOk closed (λ files.
       AreClean g files.log files.db → (next : Pair) → IsNextOf g files next.image
       → LeadsOn in_volume (CreatedRun user token) start next)
-  -- and of files that could not be closed what a crash left of it, or the new index
+  -- if the files could not be closed: what was there, or the new index
   pub unclosed : (start : Pair) → IsOpenedOn start.image conn → IfErr closed (λ it.
       IsClean (over_files.view it.store) → (next : Pair) → MayLeave books.conn next.image
       → LeadsOn in_volume (InitRun user token) start next)
 
--- An init makes a volume only beside a blank database.
+-- An init makes a volume only beside a blank database: else the volume is as it was.
 abbrev pub VolumeStays : {D : Type 0} {g : Ghosts D} → Held (FileStore D g) → Pair → Pair → Type 0
 VolumeStays conn start next =
     (file_state conn).now.schema ≢ no_schema → next.volume ≡ start.volume
@@ -107,8 +107,8 @@ pub record InitEndsOver {D : Type 0} {g : Ghosts D} (user token : Bytes)
   pub ends : MakesBeside user token conn made
   pub told : IsToldOfMade made result
 
--- An init did not come so far as to open the database. The next run finds what was there, beside any
--- volume.
+-- An init did not come so far as to open the database. The next run finds what was there, beside
+-- any volume.
 abbrev pub ShutInitLeadsOn : {D : Type 0} {g : Ghosts D} → Bytes → Bytes → Image
     → FailedOpening D g → Type 0
 ShutInitLeadsOn user token start failed =

@@ -1,7 +1,7 @@
 -- A run over a database of version 3 and its volume: what is known of its calls, of a crash in
 -- them, and of what the next run finds.
-use Rattle.std.specs.Prelude.{◌≡◌, ◌⊎◌, ◌↔◌, Bool, ℕ, List, Option, Some, None, Result, Ok, Err}
-use Rattle.std.specs.Prelude.{IfErr, IfOk, IfSome, IsErrAnd, IsOk, IsTrue, false, true}
+use Rattle.std.specs.Prelude.{◌≡◌, ◌⊎◌, Bool, ℕ, List, Option, Some, None, Result, Ok, Err}
+use Rattle.std.specs.Prelude.{IfErr, IfOk, IfSome, IsErrAnd, IsTrue, false, true}
 use Rattle.std.specs.declared.process.ExitCode.{ExitCode}
 use Rattle.sqlite.specs.Closing.{IsCopied}
 use Rattle.sqlite.specs.declared.FileStore.{FileStore}

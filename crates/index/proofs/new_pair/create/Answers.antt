@@ -1,4 +1,5 @@
-use Rattle.index.proofs.Words.{ap, Ok, Err, Some, true≢false, is_fault_end, is_ok, subst, sym, true, ◌≡◌, IfSome_then, IsBadFirstUserByHex, image_at}
+use Rattle.index.proofs.Words.{◌≡◌, ap, Ok, Err, Some, true, true≢false, is_fault_end, is_ok, subst, sym, IfSome_then, image_at}
+use Rattle.index.proofs.Words.{IsBadFirstUserByHex}
 use Rattle.index.specs.Openings.{OpeningEnds}
 use Rattle.index.proofs.InitLemmas.{bad_user_told, made_told, shut_to_next}
 use Rattle.index.proofs.PairLemmas.{no_first_user, only_first_user}

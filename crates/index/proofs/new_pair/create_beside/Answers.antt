@@ -1,5 +1,5 @@
 use Rattle.index.proofs.Words.{subst, sym, HasCleanDisk, file_state, OpensAgain, IsCreated, first_tables}
-use Rattle.index.specs.NewPairs.{IsUnmadeVolume, UnmadeLeadsOn}
+use Rattle.index.specs.NewPairs.{UnmadeLeadsOn}
 use Rattle.index.proofs.InitLemmas.{stays_database, unmade_to_next}
 use Rattle.index.proofs.UnusedLemmas.{LeavesCommitted}
 use Rattle.index.proofs.new_pair.create_beside.Goals as goal

@@ -1,6 +1,6 @@
 use Rattle.index.proofs.Words.{◌≡◌, ◌∙◌, IfErr, IfOk, false, rules, subst, sym, HasCleanDisk, IsCopied, IsClosed, file_state, over_files}
-use Rattle.index.proofs.Words.{AreClean, IsBadFirstUser, first_tables, BadFirstUser, has_any_of, index_schema, IsHonest, IsWorking, AreNew}
-use Rattle.index.proofs.Words.{OpensAgain, IsCreated, FileStore, Held, Unopened}
+use Rattle.index.proofs.Words.{AreClean, IsBadFirstUser, first_tables, has_any_of, index_schema, IsHonest, IsWorking, AreNew}
+use Rattle.index.proofs.Words.{OpensAgain, FileStore, Unopened}
 use Rattle.index.specs.NewPairs.{IsUnmadePlaced, MadePlaced, UnmadeLeadsOn}
 use Rattle.index_rules.specs.FirstTables.{first_record}
 use Rattle.index_sql_opening.specs.NewAsks.{asks_of_new}
