@@ -3,6 +3,7 @@
 `--rounds N` is how often the container of the index is killed."""
 from __future__ import annotations
 
+import fcntl
 import filecmp
 import json
 import os
@@ -21,12 +22,15 @@ from support.server.expected import assert_ends
 from support.server.packaged import make_package
 from support.server.pasted import block
 from support.server.podded import CONTAINERS, Pod, until
+from support.serving import ACCEPTED
 
 pytestmark = [pytest.mark.slow, pytest.mark.xdist_group("image"), pytest.mark.timeout(3_600)]
 PATIENCE = 1_800
 DEBIAN = "http://deb.debian.org/debian/dists/bookworm/InRelease"
 WHEEL = "frob-1.0-py3-none-any.whl"
 KILLS = 5
+# as the blocks begin that run a command on the disks of the pod
+AS_A_JOB = "podman run --rm --network none --read-only"
 
 
 def want_debian() -> None:
@@ -150,7 +154,7 @@ def test_killed_again_and_again_it_has_all_that_it_acknowledged(pod, pytestconfi
 
 def test_a_copy_is_restored_as_the_page_says_and_what_it_forgets_is_listed(pod, looked):
     assert pod.claim("egg") and pod.upload("egg", "egg-1.tar.gz", b"abc")
-    ended = pod.pasted(block("podman run --rm --network none --read-only"))
+    ended = pod.pasted(block(AS_A_JOB, "index-backup /var"))
     looked(ended.returncode == 0 and "tested in" in ended.stdout, ended.stdout)
     assert pod.upload("egg", "egg-2.tar.gz", b"def")
     assert pod.ask("GET", "/files/egg/egg-2.tar.gz") == (200, b"def")
@@ -164,6 +168,33 @@ def test_a_copy_is_restored_as_the_page_says_and_what_it_forgets_is_listed(pod, 
     looked("/files/egg/egg-2.tar.gz" in changes, changes)
     looked(pod.ask("GET", "/files/egg/egg-1.tar.gz") == (200, b"abc"), "what the copy has")
     looked(pod.ask("GET", "/files/egg/egg-2.tar.gz")[0] == 404, "what came after it, in nginx's cache too")
+
+
+@catches("docs/operators/CONTAINER.md", "localhost/package-index index-punch ", "localhost/package-index true ")
+def test_the_bytes_of_a_deleted_file_leave_the_disk_as_the_page_says(pod, looked):
+    body, last = os.urandom(100_000), os.urandom(1_000)
+
+    def is_there() -> bool:
+        with open(f"{pod.disk()}/index.db-volume", "rb") as kept:
+            return body in kept.read()
+    assert pod.claim("sand") and pod.upload("sand", "sand-1.tar.gz", body) and pod.upload("sand", "sand-2.tar.gz", last)
+    assert is_there()
+    assert pod.ask("POST", "/requests", b'{"do":"delete","file":"sand-1.tar.gz"}') == (200, ACCEPTED)
+    ended = pod.pasted(block(AS_A_JOB, "index-punch"))
+    looked(ended.returncode == 0 and not is_there(), ended.stdout)
+    looked(pod.ask("GET", "/files/sand/sand-2.tar.gz") == (200, last))
+
+
+@catches("server/container/start", '[ ! -e "$it" ] || flock $data true', "flock $data true")
+def test_a_container_starts_while_a_backup_is_made(pod):
+    """Which locks the folder of the index."""
+    folder = os.open(pod.disk(), os.O_RDONLY)
+    try:
+        fcntl.flock(folder, fcntl.LOCK_EX)
+        pod.kill()
+        until(pod.answers)
+    finally:
+        os.close(folder)
 
 
 @catches("tools/image", '["/usr/bin/tini","--","/usr/bin/index-container"]', '["/usr/bin/index-container"]')

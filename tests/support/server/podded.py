@@ -103,6 +103,10 @@ class Pod:
         reply = self.ask("GET", "/names/x")
         return reply is not None and reply[0] == 200
 
+    def disk(self) -> str:
+        """The folder of the index, as root of this machine sees it."""
+        return self.podman("volume", "inspect", "--format", "{{.Mountpoint}}", "index-data").stdout.strip()
+
     def process(self, container: str = "index-index") -> int:
         """The first process of a container; 0 if it does not run."""
         said = self.podman("inspect", "--format", "{{.State.Pid}}", container).stdout.split()
