@@ -229,12 +229,12 @@ def test_the_completion_knows_each_word(life, program, word):
 
 def test_the_new_program_checks_a_copy_before_an_upgrade(life):
     assert_ends(life.upgraded["before"], 0, "accepted")
-    assert_ends(life.upgraded["checked"], 0, "\n0\nschema 2 becomes 2\n")
+    assert_ends(life.upgraded["checked"], 0, "\n0\nschema 3 becomes 3\n")
 
 
 def test_one_copy_is_left_of_that(life):
     left = life.upgraded["left"]
-    assert len(left) == 1 and left[0].endswith(".db")
+    assert len([it for it in left if it.endswith(".db")]) == 1 and all(it.startswith("index-") for it in left), left
 
 
 def test_without_a_package_nothing_is_checked(life):

@@ -209,9 +209,10 @@ class Life:
 
     @functools.cached_property
     def several(self) -> dict:
-        """A database is shrunk, and one more index is made beside it."""
+        """A database whose files' bytes were moved into it is shrunk, and one more index is made beside it."""
         assert self.moved
         root = self.root
+        root.sh("index-migrate --one-file /var/lib/index/index.db")
         root.sh("runuser -u index -- sqlite3 /var/lib/index/index.db 'CREATE TABLE x (y)' 'INSERT INTO x VALUES "
                 "(zeroblob(1000000))' 'DROP TABLE x'")
         seen = {"before": self.size()}
