@@ -14,6 +14,7 @@ from support.places import BIN
 from support.running import run, run_command
 from support.serving import Asking, exchange
 from support.two_machines.guests import Guest
+from support.volumes import VOLUME, bodies_of
 
 
 class Served(Asking):
@@ -87,9 +88,9 @@ class Uploader(threading.Thread):
 
 
 def fetched(guest: Guest, folder: str) -> str:
-    """A copy of the database and its log as they lie in the guest."""
+    """A copy of the database, its log and its volume as they lie in the guest."""
     path = f"{folder}/fetched.db"
-    for end in ("", "-wal"):
+    for end in ("", "-wal", VOLUME):
         with suppress(FileNotFoundError):
             os.remove(path + end)
         guest.fetch(f"/var/lib/index/index.db{end}", path + end)
@@ -106,7 +107,8 @@ def wrong_in(path: str, files: dict[str, bytes], program: str) -> list[object]:
     if verified.returncode:
         found.append(verified)
     with closing(sqlite3.connect(f"file:{path}?immutable=1", uri=True)) as database:
-        rows = dict(database.execute("SELECT file, body FROM files JOIN blobs USING (file) WHERE live = 1"))
+        rows = dict(bodies_of(path, database.execute("SELECT file, body FROM files JOIN blobs USING (file) "
+                                                     "WHERE live = 1")))
     lost = [file for file, digest in files.items() if file not in rows or hashlib.sha256(rows[file]).digest() != digest]
     return found + [("lost", file) for file in lost]
 
