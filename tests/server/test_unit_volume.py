@@ -236,18 +236,18 @@ def test_a_short_write_is_gone_on_with(tmp_path, monkeypatch):
 
 def test_a_long_file_takes_the_memory_of_some_pieces(tmp_path):
     with open(tmp_path / "source", "wb") as file:
-        file.truncate(64 * MIB)
+        file.truncate(128 * MIB)
     digest = hashlib.sha256()
-    for _ in range(64):
+    for _ in range(128):
         digest.update(bytes(MIB))
-    long = volume.Body("long", 0, 64 * MIB, digest.digest())
+    long = volume.Body("long", 0, 128 * MIB, digest.digest())
     tracemalloc.start()
-    assert copied_and_read(tmp_path, [long], 64 * MIB) is None
+    assert copied_and_read(tmp_path, [long], 128 * MIB) is None
     with volume.volume(f"{tmp_path}/target") as file:
         assert volume.first_wrong(file, [long]) is None
     _, most = tracemalloc.get_traced_memory()
     tracemalloc.stop()
-    assert most < 24 * MIB
+    assert most < 48 * MIB
 
 
 def test_a_place_that_is_none_is_no_file_here(pair):
