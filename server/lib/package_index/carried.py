@@ -71,8 +71,8 @@ def carry(source: int, target: int, start: int, end: int) -> None:
 
 
 class Digests:
-    """Digests that are computed while other pieces are read and written: the pieces of a file one after the other, by one
-    worker, and files side by side."""
+    """Digests that are computed while other pieces are read and written. The pieces of a file go to one worker, one
+    after the other, and files go to the workers by turns."""
 
     def __init__(self) -> None:
         self.workers = [ThreadPoolExecutor(1) for _ in range(min(os.cpu_count() or 1, MOST_WORKERS))]
