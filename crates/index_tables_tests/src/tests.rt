@@ -1,10 +1,9 @@
 //! Indexes in databases, and requests to them.
-use index_cli::apply_lines;
 use index_desk::Desk;
 use index_digest::{Digest256, Sealed};
-use index_io::{Input, Output};
-use index_names::FileName;
-use index_rules::{Books, Fault, OpenFault};
+use index_json::{Line, answer_text, read_line, standing_text};
+use index_names::{FileName, normal};
+use index_rules::{Answer, Books, Bytes, Fault, OpenFault};
 use index_tables::{SqlBooks, Unopened};
 use sqlite::{Alter, Connection, MemStore, Row};
 use std::alloc::AllocGlobal;
@@ -178,20 +177,42 @@ fn assert_answer<B: Books>(
     answer: &str,
 ) {
     let told = answer_to(rt, desk, request);
-    assert_eq!(rt; told.as_str().trim_end(), answer, "{request}");
+    assert_eq!(rt; told.as_str(), answer, "{request}");
 }
 
-/// The answer of a desk, with a line feed at the end.
+/// The answer of a desk.
 fn answer_to<B: Books>(
     rt: &(impl Abort + AllocGlobal),
     desk: &mut Desk<B>,
     request: &str,
 ) -> String {
-    let mut input = Input::new(request.as_bytes());
-    let mut output = Output::new(Vec::new(rt.alloc()));
-    let ended = apply_lines(rt.alloc(), &mut input, &mut output, desk);
-    ended.expect(rt, request);
-    String::from_utf8(output.writer).expect(rt, request)
+    match line_of(rt, request) {
+        Line::Call(call) => text_of(rt, desk.apply(rt.alloc(), call)),
+        Line::Standing(name) => standing_of(rt, desk, name),
+    }
+}
+
+/// What a request asks for.
+fn line_of(rt: &(impl Abort + AllocGlobal), request: &str) -> Line {
+    let found = read_line(rt.alloc(), request.as_bytes()).expect(rt, request);
+    found.expect(rt, request)
+}
+
+fn text_of(rt: &(impl Abort + AllocGlobal), answer: Answer) -> String {
+    String::from_str(rt.alloc(), answer_text(&answer)).expect(rt, "a text")
+}
+
+/// The standing of a name, or why it is not known.
+fn standing_of<B: Books>(
+    rt: &(impl Abort + AllocGlobal),
+    desk: &mut Desk<B>,
+    name: Bytes,
+) -> String {
+    let name = normal(rt.alloc(), name.as_slice()).expect(rt, "a name");
+    match desk.standing(rt.alloc(), &name) {
+        Ok(standing) => standing_text(rt.alloc(), &standing).expect(rt, "a text"),
+        Err(fault) => text_of(rt, Answer::Fault(fault)),
+    }
 }
 
 /// The bytes of `frob-1.0.tar.gz`, as far as they are found.

@@ -1,10 +1,10 @@
 //! Calls that a desk takes in one run.
 use super::{
     ADD_ANN, ADD_BOB, CHARGED, CLAIM, OTHER_UPLOAD, STANDING, UPLOAD, assert_adopted,
-    connection_of, new_database, new_desk,
+    connection_of, line_of, new_database, new_desk,
 };
 use index_desk::Desk;
-use index_json::{Line, read_line};
+use index_json::Line;
 use index_rules::{Answer, Books, Call, Refusal};
 use sqlite::{Alter, Connection};
 use std::alloc::AllocGlobal;
@@ -12,8 +12,7 @@ use std::process::Abort;
 
 /// The call of a line.
 fn call_of(rt: &(impl Abort + AllocGlobal), line: &str) -> Call {
-    let found = read_line(rt.alloc(), line.as_bytes()).expect(rt, line);
-    match found.expect(rt, line) {
+    match line_of(rt, line) {
         Line::Call(call) => call,
         Line::Standing(_name) => panic!(rt; "{line}"),
     }

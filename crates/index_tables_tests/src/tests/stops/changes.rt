@@ -82,12 +82,12 @@ fn is_answer<B: Books>(
     request: &str,
     answer: &str,
 ) -> bool {
-    answer_to(rt, desk, request).as_str().trim_end() == answer
+    answer_to(rt, desk, request).as_str() == answer
 }
 
 /// How far a request comes.
 fn told_by<B: Books>(rt: &(impl Abort + AllocGlobal), desk: &mut Desk<B>, request: &str) -> Told {
-    told_of(rt, answer_to(rt, desk, request).as_str().trim_end())
+    told_of(rt, answer_to(rt, desk, request).as_str())
 }
 
 /// How far a request with this answer came.
