@@ -2,22 +2,20 @@
 use Rattle.index.proofs.Words.{◌≡◌, ℕ, true, false, List, [], ◌∷◌, Option, Result, inl, inr, refl, sym, subst, ∥∥₁_map, History, IsLegal}
 use Rattle.index.proofs.Words.{StandsFor, Tables, history_after, Accepted, Call, Exchange, HasCall, Rules, by_history, by_tables, LinesEnd}
 use Rattle.index.proofs.Words.{LinesEnd-choice, LineEnd, end_of, LeavesTables, End, Task, AnswerLines, Done, DoneExchanges, DoneLines}
-use Rattle.index.proofs.Words.{DoneLook, FindsOnly, Keeping, IsDoneInPart, WasDone, WasDoneInPart, Carries, TaskEnds, Works, end_of_fault}
-use Rattle.index.proofs.Words.{CountWrong, WriteReport, ReportFault, Fault, Err, Ok}
+use Rattle.index.proofs.Words.{DoneLook, FindsOnly, Keeping, IsDoneInPart, WasDone, WasDoneInPart, Carries, TaskEnds, Works, CountWrong}
+use Rattle.index.proofs.Words.{WriteReport, Fault}
 use Rattle.index_cli.specs.DeskAnswers.{by_desk}
 use Rattle.index_cli.specs.LinesWent.{Answered, LinesMayHaveMade}
 use Rattle.index_cli.specs.Went.{MayHaveMade}
 use Rattle.index_cli.proofs.Choices.{AsksLine-choice, AsksOne-choice}
 use Rattle.index_cli.proofs.RunEnds.{LinesEnd-map}
 use Rattle.index_desk.proofs.LeavesLemmas.{look_leaves}
-use Rattle.index_desk.specs.Checks.{wrong_charges_in}
-use Rattle.index_desk.specs.Looks.{LooksAt}
-use Rattle.index_desk.specs.Reports.{Reports, report_in}
+use Rattle.index_desk.specs.Looks.{ReadsTables}
+use Rattle.index_rules.specs.declared.books.Books.{Ghosts}
+use Rattle.index.specs.Tasks.{CountsWrong, WritesReport}
 use Rattle.index_desk.specs.Takes.{answers_fault}
 use Rattle.index_http.specs.Steps.{DeskStep}
 use Rattle.index.specs.Chains.{WorkLeadsTo, leading_to}
-use Rattle.index.specs.Ends.{end_of_reporting}
-use Rattle.index.proofs.FaultLemmas.{desk_fault_is_fault}
 
 -- a legal history for which these tables stand
 abbrev pub LegalFor : Tables → Type 0
@@ -151,10 +149,12 @@ module _ {S : Type 0} (desk : DeskStep S) where
         went = chosen.0.1.1;
       }
 
+  -- an honest store leaves its tables
+  abbrev Settles : Type 0
+  Settles = (s : S) → desk.books.IsHonest s → (T : Tables) → desk.books.may_leave s T → T ≡ desk.books.tables s
+
   -- no table was changed
-  pub look_works : (task : Task) (result : Result ℕ End)
-      → ((s : S) → desk.books.IsHonest s → (T : Tables) → desk.books.may_leave s T → T ≡ desk.books.tables s)
-      → LeavesTables desk.books desk.old desk.new
+  look_works : (task : Task) (result : Result ℕ End) → Settles → LeavesTables desk.books desk.old desk.new
       → (desk.books.IsHonest desk.old → desk.books.IsClean desk.new → TaskEnds task first result DoneLook) → Works desk task result
   look_works task result settled leaves ends = record {
     done = DoneLook;
@@ -174,23 +174,15 @@ module _ {S : Type 0} (desk : DeskStep S) where
     };
   }
 
-  module _ (settled : (s : S) → desk.books.IsHonest s → (T : Tables) → desk.books.may_leave s T → T ≡ desk.books.tables s) where
-    pub report_works : (before after : Option (List ℕ)) (ended : Result (Unit {0}) ReportFault) (result : Result ℕ End)
-        → result ≡ end_of_reporting ended → LeavesTables desk.books desk.old desk.new
-        → (desk.books.IsHonest desk.old → desk.books.IsClean desk.new → Reports (report_in first) before after ended)
-        → Works desk (WriteReport before after) result
-    report_works before after ended result is leaves reports = look_works _ _ settled leaves
-        (λ honest clean. record { ended = ended; is = is; reports = reports honest clean; looked = refl })
+  pub report_works : (before after : Option (List ℕ)) (result : Result ℕ End) → Settles → LeavesTables desk.books desk.old desk.new
+      → (desk.books.IsHonest desk.old → desk.books.IsClean desk.new → WritesReport before after first result DoneLook)
+      → Works desk (WriteReport before after) result
+  report_works before after result = look_works (WriteReport before after) result
 
-    -- the wrong charges were counted
-    pub count_works : (Says : Tables → ℕ → Type 0) (count : ℕ)
-        → LooksAt desk.books desk.old desk.new (Ok count) (λ T count. (count ≡ wrong_charges_in T) × Says T count)
-        → Works desk CountWrong (Ok count)
-    count_works Says count it = look_works _ _ settled (look_leaves desk.books desk.old desk.new (Ok count) it.look)
-        (λ honest clean. record { count = (it.found (it.look.lasts honest clean)).0; fault = tt; looked = refl })
+  pub count_works : (result : Result ℕ End) → Settles → LeavesTables desk.books desk.old desk.new
+      → (desk.books.IsHonest desk.old → desk.books.IsClean desk.new → CountsWrong first result DoneLook) → Works desk CountWrong result
+  count_works result = look_works CountWrong result
 
-    pub no_count_works : (Says : Tables → ℕ → Type 0) (fault : Fault) (result : Result ℕ End) → result ≡ Err (end_of_fault fault)
-        → LooksAt desk.books desk.old desk.new (Err fault) Says → Works desk CountWrong result
-    no_count_works Says fault result is it = subst (Works desk CountWrong) (sym is)
-        (look_works _ _ settled (look_leaves desk.books desk.old desk.new (Err fault) it.look)
-        (λ honest clean. record { count = tt; fault = desk_fault_is_fault fault; looked = refl }))
+pub looked_leaves : {S X : Type 0} (g : Ghosts S) (old new : S) (result : Result X Fault) → ReadsTables g old new result
+    → LeavesTables g old new
+looked_leaves g old new result look = look_leaves g old new result look

@@ -319,7 +319,7 @@ impl<K: Sink> Work for Reporting<K> {
         0
     }
 
-    #[tactic(auto, using(crate::proofs::CausedLemmas::report_is_caused, crate::proofs::CausedLemmas::report_store))]
+    #[tactic(auto, using(crate::proofs::CausedLemmas::report_is_caused, crate::proofs::CausedLemmas::report_store, crate::proofs::DoneLemmas::report_works))]
     fn run<B: CachesAnswers>(&mut self, rt: &HostRuntime, desk: &mut Desk<B>) -> Result<u64, End> {
         desk.report(rt.alloc(), &mut self.sink)?;
         Ok(0)
@@ -362,7 +362,7 @@ impl Work for Checking {
         0
     }
 
-    #[tactic(auto, using(crate::proofs::FaultLemmas::desk_fault_is_fault, crate::proofs::CausedLemmas::look_store))]
+    #[tactic(auto, using(crate::proofs::FaultLemmas::desk_fault_is_fault, crate::proofs::CausedLemmas::look_store, crate::proofs::DoneLemmas::count_works, crate::proofs::DoneLemmas::looked_leaves))]
     fn run<B: CachesAnswers>(&mut self, rt: &HostRuntime, desk: &mut Desk<B>) -> Result<u64, End> {
         Ok(desk.check(rt.alloc())?)
     }
