@@ -18,7 +18,6 @@ mod interruptions;
 mod long_pages;
 mod replies;
 mod rows;
-mod stops;
 
 /// The office adds ann, whose token is `abc`, and bob, whose token is `hello`.
 const USERS: &str =

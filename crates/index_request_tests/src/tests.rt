@@ -1,4 +1,5 @@
 //! Stories: requests to a desk and its answers. Each is run by a desk over tables in memory and by one over a database.
+use files::new_database;
 use index_cache::Cache;
 use index_caching::CachesAnswers;
 use index_desk::Desk;
@@ -10,6 +11,7 @@ use std::alloc::AllocGlobal;
 use std::process::Abort;
 
 mod exchanges;
+mod files;
 mod transcripts;
 
 /// Requests to a desk and checks of it, over any books.
@@ -20,8 +22,7 @@ trait Story {
 /// Runs a story at a new desk over tables in memory, and at one over a database.
 fn assert_story<R: Abort + AllocGlobal, T: Story>(rt: &R, story: &T) {
     assert_in_memory(rt, story);
-    let conn = Connection::open_in_memory(rt.alloc()).expect(rt, "a database");
-    assert_in_database(rt, conn, story);
+    assert_in_database(rt, new_database(rt), story);
 }
 
 fn assert_in_memory<R: Abort + AllocGlobal, T: Story>(rt: &R, story: &T) {

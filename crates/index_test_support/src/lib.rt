@@ -2,9 +2,11 @@
 //! texts of messages and pages.
 #![tactic(auto)]
 
+mod long_pages;
 mod messages;
 mod pages;
 
+pub use long_pages::{HEAD_OF_LONG_PAGE, LENGTH_OF_LONG_PAGE, LONG, LONG_NAMES};
 use std::io;
 use std::io::{Error, ErrorKind, Read, Write};
 

@@ -9,18 +9,11 @@ use index_desk::Desk;
 use index_http::IoEnd;
 use index_message::Site;
 use index_rules::{Books, Fault};
-use index_test_support::{names_front, reply};
+use index_test_support::{HEAD_OF_LONG_PAGE, LONG, LONG_NAMES, names_front};
 use std::alloc::AllocGlobal;
 use std::process::Abort;
 
 mod projects;
-
-/// The number of long names whose page is too long to be gathered.
-pub(super) const LONG_NAMES: u32 = 16_000;
-
-/// The beginning of the names of a long page.
-pub(super) const LONG: &str =
-    "aaaaaaaaaabbbbbbbbbbccccccccccddddddddddeeeeeeeeeeffffffffffgggggggggghhhhhhhhhhiiiiiiiiiijjjjjjjjjjkkkkkkkkkkllllllllll";
 
 /// Claims enough names for a page that is too long to be gathered.
 fn claim_long_names<B: Books>(rt: &(impl Abort + AllocGlobal), desk: &mut Desk<B>) {
@@ -79,15 +72,6 @@ fn assert_is_cut(rt: &impl Abort, told: &[u8], ended: Result<(), IoEnd>, head: &
     assert!(rt; front.as_bytes().starts_with(told));
     assert!(rt; ended == Err(IoEnd::Cut(told.len() as u64)));
 }
-
-/// The head of the reply with the long page. The page has 164 bytes beside its rows, of 269 bytes each beside two numbers
-/// of one to five digits.
-pub(super) const HEAD_OF_LONG_PAGE: &str = reply!(
-    "200 OK",
-    ["Content-Type: text/html"],
-    "4441944",
-    ""
-);
 
 const WITHOUT_ROWS: &str = names_front!(["4441944"]);
 

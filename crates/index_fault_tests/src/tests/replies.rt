@@ -18,7 +18,7 @@ use std::io::{Read, Write};
 use std::process::Abort;
 
 /// The upload of `frob-1.0.tar.gz`, the bytes `abc`, by ann.
-pub(super) const UPLOAD: &str =
+const UPLOAD: &str =
     r#"{"at":11,"token":"abc","do":"upload","file":"frob-1.0.tar.gz","sha256":"ba7816bf8f01cfea414140de5dae2223b00361a396177a9cb410ff61f20015ad","hex":"616263","requires_python":""}"#;
 
 const STANDING_OF_FROB: &str = r#"{"do":"standing","name":"frob"}"#;

@@ -33,6 +33,7 @@ mod long_runs;
 mod messages;
 mod pages;
 mod prohibitions;
+mod stops;
 mod yanks;
 
 /// The moment of each message.

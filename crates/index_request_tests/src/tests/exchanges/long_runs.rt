@@ -31,13 +31,14 @@ const ROUND: &[[&str; 2]] = &[
     [NAMES, NAMES_IN_JSON],
 ];
 
-const NAMES: &str = look!("GET /simple/" "Accept: application/vnd.pypi.simple.v1+json");
+pub(super) const NAMES: &str = look!("GET /simple/" "Accept: application/vnd.pypi.simple.v1+json");
 
-const NAMES_IN_JSON: &str = names_json!(["59"] r#"{"name":"frob"}"#);
+pub(super) const NAMES_IN_JSON: &str = names_json!(["59"] r#"{"name":"frob"}"#);
 
-const PROJECT: &str = look!("GET /simple/frob/" "Accept: application/vnd.pypi.simple.v1+json");
+pub(super) const PROJECT: &str =
+    look!("GET /simple/frob/" "Accept: application/vnd.pypi.simple.v1+json");
 
-const PROJECT_WITH_FILE: &str =
+pub(super) const PROJECT_WITH_FILE: &str =
     project_json!(["236"] r#"{"filename":"frob-1.0.tar.gz","hashes":{"sha256":"ba7816bf8f01cfea414140de5dae2223b00361a396177a9cb410ff61f20015ad"},"size":3,"url":"/files/frob/frob-1.0.tar.gz"}"#,
         "frob",
         r#""1.0""#);

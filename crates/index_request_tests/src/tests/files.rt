@@ -1,4 +1,4 @@
-//! A database file and its log in memory, one of which stops after a number of calls.
+//! A database file and its log in memory, one of which may stop after a number of calls.
 use sqlite::{Connection, FileStore, Files, Options};
 use sqlite_disk::{Disk, Fuse, Memory};
 use std::alloc::AllocGlobal;
@@ -49,8 +49,19 @@ pub(super) fn stopping(
     }
 }
 
+/// A connection to an empty database, in files that don't stop.
+pub(super) fn new_database(rt: &(impl Abort + AllocGlobal)) -> Connection<Database> {
+    match opened(rt, new_files(rt)) {
+        Ok(conn) => conn,
+        Err(files) => {
+            drop(files);
+            panic!(rt; "the files were not opened")
+        }
+    }
+}
+
 /// A connection to the database in these files, or the files if one of them stops. It keeps so few pages in memory that
-/// a walk over a thousand names reads the file.
+/// a walk over a thousand names reads the file, and so few in its log that a sync, which copies the file, takes little.
 pub(super) fn opened(
     rt: &(impl Abort + AllocGlobal),
     files: Files<File>,
@@ -58,7 +69,7 @@ pub(super) fn opened(
     let small = Options {
         cache_pages: 8,
         spill_pages: 64,
-        checkpoint_frames: 1000,
+        checkpoint_frames: 100,
         seed: 1,
     };
     assert!(rt; files.may_be_used());

@@ -1,48 +1,38 @@
-//! Each route over a database with a file that stops at some call: the reply is the usual one or reports a failed
-//! store, and a page that is too long to be gathered is cut short.
-use super::long_pages::{HEAD_OF_LONG_PAGE, LONG, LONG_NAMES};
-use super::replies::{ROOT, STORE, UPLOAD, tell};
-use super::{ACCEPTED, CLAIM, assert_answers, desk_with_users};
-use files::{Database, File, Which, closed, new_files, opened, stopping};
+//! A file of a database stops at its first call, its second, and so on while a message is answered: the reply is the
+//! usual one or reports a failed store, and a page that is too long to be gathered is cut short.
+use super::long_runs::{NAMES, NAMES_IN_JSON, PROJECT, PROJECT_WITH_FILE};
+use super::{
+    ACCEPTED, BYTES, CHARGED, CREATED, DELETE, FILE, FROB, GET, USERS, assert_parts, new_site, tell,
+};
+use crate::tests::files::{File, Which, closed, new_database, opened, stopping};
+use crate::tests::{desk_over, new_books};
 use index_cache::Cache;
 use index_caching::CachesAnswers;
 use index_desk::Desk;
-use index_digest::Digest256;
 use index_http::IoEnd;
 use index_message::Site;
 use index_rules::OpenFault;
 use index_tables::{SqlBooks, Unopened};
-use index_test_support::{json_reply, names_json, project_json, reply};
+use index_test_support::{
+    HEAD_OF_LONG_PAGE, LENGTH_OF_LONG_PAGE, LONG, LONG_NAMES, json_reply, look, post,
+};
 use sqlite::{Alter, Connection, Files};
 use std::alloc::AllocGlobal;
 use std::process::Abort;
 
-mod files;
-
-/// A desk over a new index in an empty database, with the users ann and bob.
-fn new_desk<S: Alter + Drop>(
-    rt: &(impl Abort + AllocGlobal),
-    conn: Connection<S>,
-) -> Desk<SqlBooks<S>> {
-    assert!(rt; conn.is_autocommit());
-    match SqlBooks::create(rt.alloc(), conn, b"office", Digest256::of(b"office")) {
-        Ok(books) => desk_with_users(rt, books),
-        Err(Unopened { why, conn }) => {
-            drop(conn);
-            panic!(rt; "{why:?}")
-        }
-    }
+/// The files of a new index in which ann has claimed `frob` and uploaded a file.
+fn files_with_a_file(rt: &(impl Abort + AllocGlobal), site: &Site) -> Files<File> {
+    closed(with_a_file(rt, site, new_database(rt)))
 }
 
-/// The database of a new index in which ann has claimed `frob` and uploaded a file.
 fn with_a_file<S: Alter + Drop>(
     rt: &(impl Abort + AllocGlobal),
+    site: &Site,
     conn: Connection<S>,
 ) -> Connection<S> {
-    let mut desk = new_desk(rt, conn);
-    assert_answers(rt, &mut desk, CLAIM, ACCEPTED);
-    assert_answers(rt, &mut desk, UPLOAD, ACCEPTED);
-    desk.into_books().into_connection()
+    let mut desk = desk_over(rt, conn);
+    assert_parts(rt, site, &mut desk, &[USERS, FROB, FILE], usize::MAX);
+    desk.into_books().into_books().into_connection()
 }
 
 /// The database of a new index with as many long names as make a page that is not gathered. They come by SQL in one
@@ -51,33 +41,22 @@ fn with_long_names<S: Alter + Drop>(
     rt: &(impl Abort + AllocGlobal),
     conn: Connection<S>,
 ) -> Connection<S> {
-    let mut conn = new_desk(rt, conn).into_books().into_connection();
-    run_sql(rt, &mut conn, "BEGIN");
+    let mut conn = new_books(rt, conn).into_connection();
+    run(rt, &mut conn, "BEGIN");
     for number in 0..LONG_NAMES {
         let row = format!(in rt.alloc();
             "INSERT INTO names VALUES ('{LONG}{number}', 1, '{LONG}{number}', 1, 0, 0, NULL)"
         );
         let row = row.expect(rt, "a statement");
-        run_sql(rt, &mut conn, row.as_str());
+        run(rt, &mut conn, row.as_str());
     }
-    run_sql(rt, &mut conn, "COMMIT");
+    run(rt, &mut conn, "COMMIT");
     conn
 }
 
 /// Runs a statement of SQL.
-fn run_sql<S: Alter>(rt: &impl Abort, conn: &mut Connection<S>, sql: &str) {
+fn run<S: Alter>(rt: &impl Abort, conn: &mut Connection<S>, sql: &str) {
     conn.execute_batch(sql).expect(rt, sql);
-}
-
-/// A connection to an empty database.
-fn new_database(rt: &(impl Abort + AllocGlobal)) -> Connection<Database> {
-    match opened(rt, new_files(rt)) {
-        Ok(conn) => conn,
-        Err(files) => {
-            drop(files);
-            panic!(rt; "the files were not opened")
-        }
-    }
 }
 
 /// The reply that a client gets, and how the connection ends.
@@ -150,6 +129,13 @@ fn reply_after(
     }
 }
 
+/// The reply that reports a failed store.
+const STORE: &str = json_reply!(
+    "500 Internal Server Error",
+    "33",
+    r#"{"answer":"fault","name":"Store"}"#
+);
+
 /// The outcome of a message.
 #[derive(Clone, Copy, PartialEq, Eq, Debug)]
 enum Outcome {
@@ -208,33 +194,10 @@ fn stop_each(
 
 /// Requests for each page in JSON, a file and a standing.
 const LOOKS: &[[&str; 2]] = &[
-    [
-        "GET /simple/ HTTP/1.1\r\nAccept: application/vnd.pypi.simple.v1+json\r\n\r\n",
-        names_json!(["59"] r#"{"name":"frob"}"#),
-    ],
-    [
-        "GET /simple/frob/ HTTP/1.1\r\nAccept: application/vnd.pypi.simple.v1+json\r\n\r\n",
-        project_json!(["236"] r#"{"filename":"frob-1.0.tar.gz","hashes":{"sha256":"ba7816bf8f01cfea414140de5dae2223b00361a396177a9cb410ff61f20015ad"},"size":3,"url":"/files/frob/frob-1.0.tar.gz"}"#,
-                "frob",
-                r#""1.0""#),
-    ],
-    [
-        "GET /files/frob/frob-1.0.tar.gz HTTP/1.1\r\n\r\n",
-        reply!(
-            "200 OK",
-            ["Content-Type: application/octet-stream"],
-            "3",
-            "abc"
-        ),
-    ],
-    [
-        "GET /names/frob HTTP/1.1\r\n\r\n",
-        json_reply!(
-            "200 OK",
-            "104",
-            r#"{"case":null,"charge":3,"name":"frob","owners":["ann"],"quota":1073741824,"shown":"frob","state":"held"}"#
-        ),
-    ],
+    [NAMES, NAMES_IN_JSON],
+    [PROJECT, PROJECT_WITH_FILE],
+    [GET, BYTES],
+    CHARGED,
 ];
 
 /// A message gets its reply, or at some stops a reply that reports a fault.
@@ -252,8 +215,8 @@ fn assert_told(
 
 #[test]
 fn a_look_at_a_database_that_stops(rt: HostRuntime) {
-    let site = &Site::new(rt.alloc()).expect(&rt, "routes");
-    let files = closed(with_a_file(&rt, new_database(&rt)));
+    let site = &new_site(&rt);
+    let files = files_with_a_file(&rt, site);
     for look in LOOKS {
         assert_told(&rt, site, &files, Which::Database, look);
     }
@@ -262,51 +225,44 @@ fn a_look_at_a_database_that_stops(rt: HostRuntime) {
 /// bob claims a name, ann uploads a second file, and deletes the first.
 const CHANGES: &[[&str; 2]] = &[
     [
-        concat!(
-            "POST /requests HTTP/1.1\r\nX-Index-Token: hello\r\nContent-Length: 28\r\n\r\n",
-            r#"{"do":"claim","name":"nest"}"#
-        ),
-        json_reply!("200 OK", "21", r#"{"answer":"accepted"}"#),
+        post!("hello", "28", r#"{"do":"claim","name":"nest"}"#),
+        ACCEPTED,
     ],
     [
-        concat!(
-            "PUT /files/frob/frob-1.1.tar.gz HTTP/1.1\r\nX-Index-Token: abc\r\nX-Index-SHA256: ",
-            "ba7816bf8f01cfea414140de5dae2223b00361a396177a9cb410ff61f20015ad",
-            "\r\nContent-Length: 3\r\n\r\nabc"
-        ),
-        json_reply!("201 Created", "21", r#"{"answer":"accepted"}"#),
+        put!("/files/frob/frob-1.1.tar.gz" "X-Index-Token: abc"),
+        CREATED,
     ],
-    [
-        "DELETE /files/frob/frob-1.0.tar.gz HTTP/1.1\r\nX-Index-Token: abc\r\n\r\n",
-        json_reply!("200 OK", "21", r#"{"answer":"accepted"}"#),
-    ],
+    [DELETE, ACCEPTED],
 ];
 
 #[test]
 fn a_change_of_a_database_that_stops(rt: HostRuntime) {
-    let site = &Site::new(rt.alloc()).expect(&rt, "routes");
-    let files = closed(with_a_file(&rt, new_database(&rt)));
+    let site = &new_site(&rt);
+    let files = files_with_a_file(&rt, site);
     for change in CHANGES {
         assert_told(&rt, site, &files, Which::Log, change);
         assert_told(&rt, site, &files, Which::Database, change);
     }
 }
 
-/// The page has 164 bytes beside its rows, of 269 bytes each beside two numbers of one to five digits.
-const LENGTH_OF_PAGE: usize = 4_441_944;
+/// A request for the page of all names.
+const ROOT: &str = look!("GET /simple/");
 
 /// The reply with the long page if no file stops.
 fn long_reply(rt: &(impl Abort + AllocGlobal), site: &Site, files: &Files<File>) -> Reply {
     let files = stopping(rt, files, Which::Database, u64::MAX);
-    let reply = reply_after(rt, site, files, ROOT.message).expect(rt, "an index");
+    let reply = reply_after(rt, site, files, ROOT).expect(rt, "an index");
     assert!(rt; reply.ended == Ok(()) && reply.told.starts_with(HEAD_OF_LONG_PAGE.as_bytes()));
-    assert_eq!(rt; reply.told.len(), HEAD_OF_LONG_PAGE.len() + LENGTH_OF_PAGE);
+    assert_eq!(rt;
+        reply.told.len(),
+        HEAD_OF_LONG_PAGE.len() + LENGTH_OF_LONG_PAGE
+    );
     reply
 }
 
 /// Some stops are reported as a fault, and others cut the page short.
 fn assert_cut(rt: &(impl Abort + AllocGlobal), site: &Site, files: &Files<File>, whole: &[u8]) {
-    let (faults, cuts) = stop_each(rt, site, files, Which::Database, 2_003, ROOT.message, whole);
+    let (faults, cuts) = stop_each(rt, site, files, Which::Database, 2_003, ROOT, whole);
     assert!(rt; faults > 0 && cuts > 0);
 }
 
@@ -314,7 +270,7 @@ fn assert_cut(rt: &(impl Abort + AllocGlobal), site: &Site, files: &Files<File>,
 /// a fault, and one in the last cuts the page short.
 #[test]
 fn a_long_page_of_a_database_that_stops(rt: HostRuntime) {
-    let site = &Site::new(rt.alloc()).expect(&rt, "routes");
+    let site = &new_site(&rt);
     let files = closed(with_long_names(&rt, new_database(&rt)));
     let reply = long_reply(&rt, site, &files);
     assert_cut(&rt, site, &files, reply.told.as_slice());
