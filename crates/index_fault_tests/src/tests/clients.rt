@@ -1,9 +1,9 @@
 //! Clients in memory, one after the other: each gets the reply of docs/reference/HTTP.md, and nothing else.
-ghost use Rattle.std.specs.Prelude.{◌≡◌, ℕ, [], ◌∷◌, ◌++◌, map, Some};
+ghost use Rattle.std.specs.Prelude.{◌≡◌, [], ◌∷◌, ◌++◌, map, Some};
 ghost use Rattle.std.specs.Slice.Iter.{iter_rest};
-ghost use Rattle.index_desk.specs.Rules.{by_tables};
-ghost use Rattle.index_desk.specs.Takes.{ByTables};
-ghost use Rattle.index_cli.specs.Serving.{IsCount, Serves};
+ghost use Rattle.index_http.specs.Steps.{at_desk};
+ghost use Rattle.index_cli.specs.DeskAnswers.{DeskAnswersConnections};
+ghost use Rattle.index_cli.specs.Serving.{IsCount};
 ghost use Rattle.index_cli.specs.InMemory.{AddsClosed, IsNew, sent_on};
 ghost use Rattle.index_fault_tests.specs.Clients.{AreNamed};
 
@@ -120,10 +120,10 @@ fn answer_clients<R: Abort, B: CachesAnswers>(
     desk: &mut Desk<B>,
 ) -> Result<(), ServeEnd>
     requires new { clients.old.closed.items ≡ [] }
-    // By the tables: the messages of these clients were answered, and their replies were sent.
-    ensures named { ByTables B.Books desk.old desk.new (λ T T'. (count : ℕ) × IsCount requests
-        result count × Serves (AreNamed (map (λ it. it.0.now) (iter_rest clients.old.coming)) (map
-        sent_on clients.new.closed.items)) by_tables (Some 2) count T T') }
+    // The messages of these clients were answered, and their replies were sent.
+    ensures named { DeskAnswersConnections (at_desk B.Books desk.old desk.new)
+        (AreNamed (map (λ it. it.0.now) (iter_rest clients.old.coming))
+        (map sent_on clients.new.closed.items)) (Some 2) (IsCount requests result) }
 {
     answer_connections(host, clients, requests, Some(2), site, desk)
 }
