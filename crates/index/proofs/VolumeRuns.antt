@@ -1,5 +1,5 @@
 -- Work over a database and its volume leads from the pair that it found to the next one.
-use Rattle.index.proofs.Words.{◌≡◌, ◌∙◌, ap, inl, inr, false, refl, subst, sym, ℕ, List, Result, Ok, Err, IfErr, IfOk, IsTrue, true, length}
+use Rattle.index.proofs.Words.{◌≡◌, ◌∙◌, ap, false, refl, subst, sym, ℕ, List, Result, Ok, Err, IfErr, IfOk, IsTrue, true, length}
 use Rattle.index.proofs.Words.{∥∥₁_elim, ∥∥₁_map, HasCleanDisk, IsClean, IsClosed, WorkRun, IsLeftPair, opens_again, IsCopied, FileStore}
 use Rattle.index.proofs.Words.{file_state, over_files, Held, Image, AreClean, Ghosts, Files, OpenFault, first_tables, Bytes, Tables}
 use Rattle.index.proofs.Words.{has_any_of, tables_of, index_schema, BooksState, IsHonest, IsWorking, IsCommitted, AreNew, TakesPlaced, Fits}
