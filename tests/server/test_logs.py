@@ -8,7 +8,7 @@ import time
 import pytest
 from support.planted import catches
 from support.server.expected import assert_ends
-from support.server.logs import CLAIMS, HEAD, Logs, bytes_of, claim
+from support.server.logs import CLAIMS, FRONT, HEAD, PAGE, Logs, bytes_of, claim
 from support.server.rows import verified
 from support.serving import Index, make_index
 
@@ -35,12 +35,19 @@ def kept(db):
     return [bytes_of(*sorted(glob.glob(f"{it}/*"))) for it in glob.glob(f"{os.path.dirname(db)}/damaged-*")]
 
 
+def counts_by(bit):
+    """Whether a frame says by this bit that it ends a commit."""
+    return bit >= 8 * HEAD and 4 <= (bit // 8 - HEAD) % (FRONT + PAGE) < 8
+
+
 def loses(logs, bit, looked):
-    """Whether the program drops something for this flipped bit; index-log has to tell just that."""
+    """Whether the program drops something for this flipped bit; index-log has to tell just that, and how much, but for
+    one commit if the bit is one by which commits are counted."""
     db = logs.copy(bit)
     ended, left = logs.log(db), logs.names(db)
     looked(ended.returncode == (0 if left == CLAIMS else 3), bit, left, ended.returncode, ended.stdout)
-    looked(left == CLAIMS or f"about {CLAIMS - left} " in ended.stdout, bit, left, ended.stdout)
+    told = [f"about {CLAIMS - left + more} " for more in ((-1, 0, 1) if counts_by(bit) else (0,))]
+    looked(left == CLAIMS or any(it in ended.stdout for it in told), bit, left, ended.stdout)
     return left != CLAIMS
 
 
