@@ -83,10 +83,14 @@ def pytest_runtest_setup(item):
     make_with_volume(item.config.option.volume and room_of(item) in WITH_VOLUME)
 
 
+def needs_program(item):
+    return "program" in getattr(item, "fixturenames", ())
+
+
 def in_turn(config, items):
     """All but those that are marked as `by_turns` or `by_hand` and not asked for: by the option of that name, or the
-    first by --share or --alone. Those of a file that have no parameters take their turn together: they share what takes
-    long."""
+    first by --share or --alone; and those that --needs leaves out. Those of a file that have no parameters take their
+    turn together: they share what takes long."""
     def is_left_out(it, marker):
         found = it.get_closest_marker(marker)
         return found and not getattr(config.option, found.args[0])
@@ -95,8 +99,11 @@ def in_turn(config, items):
         return config.option.alone or is_of_share(it.name if hasattr(it, "callspec") else it.path.name,
                                                   config.option.share)
 
+    def is_of_kind(it):
+        return not config.option.needs or needs_program(it) == (config.option.needs == "program")
+
     other = "one_file" if config.option.volume else "with_volume"
-    return {it for it in items if not it.get_closest_marker(other) and not is_left_out(it, "by_hand")
+    return {it for it in items if is_of_kind(it) and not it.get_closest_marker(other) and not is_left_out(it, "by_hand")
             and (not is_left_out(it, "by_turns") or has_its_turn(it))}
 
 
@@ -117,7 +124,7 @@ def pytest_collection_modifyitems(config, items):
     config.hook.pytest_deselected(items=left_out)
     if hasattr(config, "workerinput"):
         items.sort(key=limit_of, reverse=True)
-    needs = [it for it in items if "program" in getattr(it, "fixturenames", ())]
+    needs = [it for it in items if needs_program(it)]
     # a worker of xdist can only let tests fail
     if needs and not config.option.collectonly and not hasattr(config, "workerinput"):
         if not is_program(config.option.program):

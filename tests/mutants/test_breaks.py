@@ -22,9 +22,14 @@ TRIES = 3
 MISSED = f"{TOP}/tests/out/missed-breaks.txt"
 
 
-def by_name():
-    """Each break as a parameter, by its room and its name."""
-    return [pytest.param(it, id=f"{it.room}-{it.name}") for it in BREAKS]
+def by_name(breaks):
+    """Each of these breaks as a parameter, by its room and its name."""
+    return [pytest.param(it, id=f"{it.room}-{it.name}") for it in breaks]
+
+
+def is_of_unit_tests(one):
+    """Whether all tests that see a break are of files that need no program."""
+    return all("/test_unit_" in it.partition("::")[0] for it in one.caught)
 
 
 @pytest.mark.parametrize("line, name", [
@@ -50,7 +55,7 @@ def test_each_has_a_name_of_its_own():
     assert not sorted({it for it in names if names.count(it) > 1})
 
 
-@pytest.mark.parametrize("one", by_name())
+@pytest.mark.parametrize("one", by_name(BREAKS))
 def test_can_be_made(one):
     assert one.texts() or one.program or one.alter
     assert one.caught, "it names no test that sees it"
@@ -185,13 +190,24 @@ def test_what_is_not_seen_is_tried_three_times(monkeypatch, tmp_path, ends, last
     assert (told.read_text() if told.exists() else "").count("a is not seen by ['a.py::b']") == len(ends) - left - 1
 
 
-@pytest.mark.by_turns("breaks")
-@pytest.mark.timeout(TRIES * LONGEST + 60)
-@pytest.mark.parametrize("one", by_name())
-def test_is_seen(one, program):
+def assert_seen(one, program):
     ended = first_seen(one, program)
     if ended.why_skipped:
         pytest.skip(f"its tests can't be run here: {ended.why_skipped}")
     unseen = unseen_by(ended, one)
     assert not unseen, (f"pytest ended with {ended.status}; these did not fail: {unseen}; these did: "
                         f"{sorted(ended.failed)}\n{ended.said[-3_000:]}")
+
+
+@pytest.mark.by_turns("breaks")
+@pytest.mark.timeout(TRIES * LONGEST + 60)
+@pytest.mark.parametrize("one", by_name(it for it in BREAKS if not is_of_unit_tests(it)))
+def test_is_seen(one, program):
+    assert_seen(one, program)
+
+
+@pytest.mark.by_turns("breaks")
+@pytest.mark.timeout(TRIES * LONGEST + 60)
+@pytest.mark.parametrize("one", by_name(filter(is_of_unit_tests, BREAKS)))
+def test_is_seen_without_a_program(one):
+    assert_seen(one, "")

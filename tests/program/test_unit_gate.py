@@ -109,11 +109,11 @@ def test_each_turn_is_the_next_one(monkeypatch):
 
     def shares(landings):
         monkeypatch.setattr(gate, "landings", lambda: ["x"] * landings)
-        parts = [part for parts in gate.whole(1) for part in parts]
+        parts = gate.parts_of(gate.whole(1))
         return {it.name: it.words[it.words.index("--share") + 1].split("/") for it in parts if "--share" in it.words}
 
     seen = [shares(count) for count in range(1, 11)]
-    for name in ("tests", "try-edits", "try-twins", "try-rules"):
+    for name in ("no-program", "tests", "try-edits", "try-twins", "try-rules"):
         counts = {int(it[name][1]) for it in seen if name in it}
         assert len(counts) == 1 and max(counts) <= 10
         of = counts.pop()
@@ -142,6 +142,33 @@ def test_indexes_have_a_volume_at_each_second_turn_and_each_share_at_each_second
         monkeypatch.setattr(gate, "landings", lambda: ["x"] * turn)
         words = gate.other_tests(1).words
         assert ("--volume" in words) != has_volume and f"{TOP}/tests" not in words and f"{TOP}/tests/storage" in words
+
+
+@catches("tests/run", "side.join()", "pass")
+@catches("tests/run", "part.run(shows=False)", "part.run()")
+def test_a_stage_begins_when_all_of_the_one_before_have_ended(capfd, tmp_path):
+    """The output of what goes beside others is shown behind theirs."""
+    gate = program_of(f"{TOP}/tests/run")
+    first = [gate.Part("one", ["sh", "-c", f"while ! test -e {tmp_path}/said; do sleep 0.1; done; echo one"], "")]
+    beside = [gate.Part("beside", ["sh", "-c", f"echo beside; touch {tmp_path}/said; sleep 1; touch {tmp_path}/done"],
+                        "")]
+    then = [gate.Part("two", ["sh", "-c", f"test -e {tmp_path}/done && echo two"], "")]
+    parts = gate.run_all([gate.Stage(first, beside), gate.Stage(then, [])])
+    assert [(it.name, it.status) for it in parts] == [("one", 0), ("beside", 0), ("two", 0)]
+    assert capfd.readouterr().out == "one\nbeside\ntwo\n"
+
+
+@catches("tests/conftest.py", '== (config.option.needs == "program")', "")
+def test_each_test_needs_a_program_or_none():
+    file = "tests/mutants/test_python_mutants.py"
+
+    def names(*words):
+        return [it for it in run_tests(TOP, [file], "--collect-only", "--mutants", "1", *words).said.splitlines()
+                if "::" in it]
+
+    nothing, program = names("--needs", "nothing"), names("--needs", "program")
+    assert program == ["mutants/test_python_mutants.py::test_mutants_are_caught"] and nothing
+    assert sorted([*nothing, *program]) == sorted(names())
 
 
 @catches("tests/run", "signal.signal(signal.SIGPIPE, signal.SIG_DFL)", "pass")
@@ -200,7 +227,7 @@ gate.prepare = lambda given: None
 def whole(jobs):
     for number in signal.SIGINT, signal.SIGTERM:
         signal.siginterrupt(number, comes == "at once")
-    return [], [part("beside")], [part("one"), part("two")]
+    return [gate.Stage([part("one"), part("two")], [part("beside")])]
 gate.whole = whole
 comes = sys.argv.pop()
 sys.exit(gate.main())

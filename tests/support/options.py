@@ -33,6 +33,8 @@ def add_options(parser) -> None:
     group = parser.getgroup("index")
     group.addoption("--program", metavar="PATH", default=built_program(), help="the built program; if not given, the "
                     "proved one, or else the one of `tools/try`")
+    group.addoption("--needs", choices=("program", "nothing"), help="only tests that need a program, or only those "
+                    "that need none")
     group.addoption("--rounds", type=whole_number, metavar="N", help="how often what is random is tried; each test has "
                     "its own default")
     group.addoption("--seconds", type=whole_number, metavar="N", help="how long a test goes on that could go on for "
