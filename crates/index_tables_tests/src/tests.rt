@@ -124,9 +124,18 @@ fn assert_adopted<S: Alter + Drop>(
     conn: Connection<S>,
     exchanges: &[[&str; 2]],
 ) {
+    drop(adopted(rt, conn, exchanges));
+}
+
+/// The database of an index that gave these answers.
+fn adopted<S: Alter + Drop>(
+    rt: &(impl Abort + AllocGlobal),
+    conn: Connection<S>,
+    exchanges: &[[&str; 2]],
+) -> Connection<S> {
     let mut desk = desk_over(rt, adopt(rt, conn));
     assert_part(rt, &mut desk, exchanges);
-    drop(connection_of(desk));
+    connection_of(desk)
 }
 
 /// The connection to a database that was refused for this reason.

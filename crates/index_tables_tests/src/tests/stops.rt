@@ -2,7 +2,7 @@
 //! stop.
 use super::new_index;
 use crashes::Left;
-use files::{Database, File, Which, closed, have_stopped, new_files, opened, stopping};
+use files::{File, Which, closed, have_stopped, new_files, opened, stopping};
 use index_rules::OpenFault;
 use sqlite::{Alter, Connection, Files};
 use std::alloc::AllocGlobal;
@@ -26,7 +26,7 @@ enum Told {
     Done,
 }
 
-/// Work on a database that may be cut short, and a check of what it leaves.
+/// Work on a database, which may be cut short, and a check of what it leaves.
 trait Trial {
     /// The number of pages that are kept in memory during the work.
     fn cache_pages(&self) -> usize {
@@ -40,13 +40,29 @@ trait Trial {
         conn: Connection<S>,
     ) -> (Told, Connection<S>);
 
-    /// The work is done as a whole or not at all, and it is done if it was reported as done.
+    /// The work is done as a whole or not at all, and it is done if it was reported as done. What is made for others to
+    /// work on needs no check.
     fn assert_whole<R: Abort + AllocGlobal, S: Alter + Drop>(
+        &self,
+        _rt: &R,
+        conn: Connection<S>,
+        _told: Told,
+    ) -> Connection<S> {
+        conn
+    }
+
+    /// Does the work, or checks what it left when it came so far.
+    fn step<R: Abort + AllocGlobal, S: Alter + Drop>(
         &self,
         rt: &R,
         conn: Connection<S>,
-        told: Told,
-    );
+        left: Option<Told>,
+    ) -> (Told, Connection<S>) {
+        match left {
+            None => self.run(rt, conn),
+            Some(told) => (told, self.assert_whole(rt, conn, told)),
+        }
+    }
 }
 
 /// More pages than any of the databases has.
@@ -103,40 +119,72 @@ fn stop_after(
     files: Files<File>,
     trial: &impl Trial,
 ) -> (Left, bool) {
-    let (told, mut files) = run(rt, files, trial);
+    let (told, mut files) = match run(rt, files, trial, None) {
+        Ok(ended) => ended,
+        Err(files) => (Told::Unopened, files),
+    };
     let has_stopped = have_stopped(&mut files);
     (Left::new(rt, told, files), has_stopped)
 }
 
-/// Opens the files, works on them and closes them, as far as they go.
+/// Opens files, takes a step of a trial, and closes them, as far as they go; or returns files that can't be opened. All
+/// steps over files are taken here, since each call that names their store is dear to prove.
 fn run(
     rt: &(impl Abort + AllocGlobal),
     files: Files<File>,
     trial: &impl Trial,
-) -> (Told, Files<File>) {
-    match opened(rt, files, trial.cache_pages()) {
-        Ok(conn) => {
-            let (told, conn) = trial.run(rt, conn);
-            (told, closed(conn))
-        }
-        Err(files) => (Told::Unopened, files),
-    }
+    left: Option<Told>,
+) -> Result<(Told, Files<File>), Files<File>> {
+    let pages = match left {
+        None => trial.cache_pages(),
+        Some(_told) => ALL_PAGES,
+    };
+    let conn = opened(rt, files, pages)?;
+    let (told, conn) = trial.step(rt, conn, left);
+    Ok((told, closed(conn)))
 }
 
 /// Whatever a crash makes of what a stop left, it is opened again, and is whole.
 fn assert_each_crash(rt: &(impl Abort + AllocGlobal), left: &Left, trial: &impl Trial) {
     for of_log in left.outcomes_of_log() {
         for of_database in left.outcomes_of_database() {
-            let conn = reopened(rt, left.files(rt, *of_log, *of_database));
-            trial.assert_whole(rt, conn, left.told);
+            let files = left.files(rt, *of_log, *of_database);
+            assert_left(rt, files, trial, left.told);
         }
     }
 }
 
-/// A connection to the database in files that don't stop.
-fn reopened(rt: &(impl Abort + AllocGlobal), files: Files<File>) -> Connection<Database> {
-    match opened(rt, files, ALL_PAGES) {
-        Ok(conn) => conn,
+/// What work left in files that don't stop is whole.
+fn assert_left(
+    rt: &(impl Abort + AllocGlobal),
+    files: Files<File>,
+    trial: &impl Trial,
+    told: Told,
+) {
+    drop(step(rt, files, trial, Some(told)));
+}
+
+/// The work is done on files that don't stop, and what it left is whole.
+fn assert_reopened(rt: &(impl Abort + AllocGlobal), files: Files<File>, trial: &impl Trial) {
+    assert_left(rt, done(rt, files, trial), trial, Told::Done);
+}
+
+/// Files that don't stop, after the work.
+fn done(rt: &(impl Abort + AllocGlobal), files: Files<File>, trial: &impl Trial) -> Files<File> {
+    let (told, files) = step(rt, files, trial, None);
+    assert_eq!(rt; told, Told::Done);
+    files
+}
+
+/// Takes a step of a trial on files that don't stop.
+fn step(
+    rt: &(impl Abort + AllocGlobal),
+    files: Files<File>,
+    trial: &impl Trial,
+    left: Option<Told>,
+) -> (Told, Files<File>) {
+    match run(rt, files, trial, left) {
+        Ok(ended) => ended,
         Err(files) => {
             drop(files);
             panic!(rt; "the files were not opened")
@@ -149,7 +197,23 @@ fn assert_store_fault(rt: &impl Abort, why: OpenFault) {
     assert_eq!(rt; why, OpenFault::Store);
 }
 
+/// A new index, after these exchanges.
+#[derive(Clone, Copy)]
+struct Filled<'a> {
+    parts: &'a [&'a [[&'a str; 2]]],
+}
+
+impl Trial for Filled<'_> {
+    fn run<R: Abort + AllocGlobal, S: Alter + Drop>(
+        &self,
+        rt: &R,
+        conn: Connection<S>,
+    ) -> (Told, Connection<S>) {
+        (Told::Done, new_index(rt, conn, self.parts))
+    }
+}
+
 /// The files of an index, after these exchanges.
 fn files_after(rt: &(impl Abort + AllocGlobal), parts: &[&[[&str; 2]]]) -> Files<File> {
-    closed(new_index(rt, reopened(rt, new_files(rt)), parts))
+    done(rt, new_files(rt), &Filled { parts })
 }

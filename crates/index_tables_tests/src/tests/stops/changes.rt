@@ -49,11 +49,11 @@ impl Trial for Asked {
         rt: &R,
         conn: Connection<S>,
         told: Told,
-    ) {
+    ) -> Connection<S> {
         let mut desk = desk_over(rt, adopt(rt, conn));
         assert_wrong_charges(rt, &mut desk, 0);
         self.assert_made_or_not(rt, &mut desk, told);
-        drop(connection_of(desk));
+        connection_of(desk)
     }
 }
 

@@ -4,8 +4,8 @@ use super::super::{
     ACCEPTED, ADD_ANN, FILE_NAME_TAKEN, OTHER_UPLOAD, STANDING, UNCHARGED, VERSION, adopt,
     assert_answer, assert_number, assert_wrong_charges, connection_of, create, desk_over, number,
 };
-use super::files::{closed, new_files};
-use super::{Told, Trial, assert_stops, assert_store_fault, reopened};
+use super::files::new_files;
+use super::{Told, Trial, assert_stops, assert_store_fault, done};
 use index_rules::OpenFault;
 use index_tables::{SqlBooks, Unopened};
 use sqlite::{Alter, Connection};
@@ -44,7 +44,7 @@ impl Trial for Creation {
         rt: &R,
         conn: Connection<S>,
         told: Told,
-    ) {
+    ) -> Connection<S> {
         let books = match adopt(rt, conn) {
             Ok(books) => Ok(books),
             Err(Unopened { why, conn }) => {
@@ -55,7 +55,7 @@ impl Trial for Creation {
         let mut desk = desk_over(rt, books);
         assert_wrong_charges(rt, &mut desk, 0);
         assert_answer(rt, &mut desk, ADD_ANN, ACCEPTED);
-        drop(connection_of(desk));
+        connection_of(desk)
     }
 }
 
@@ -90,14 +90,14 @@ impl Trial for Migration {
         rt: &R,
         conn: Connection<S>,
         told: Told,
-    ) {
+    ) -> Connection<S> {
         let mut conn = conn;
         assert_version(rt, &mut conn, told);
         let mut desk = desk_over(rt, adopt(rt, conn));
         assert_wrong_charges(rt, &mut desk, 0);
         assert_answer(rt, &mut desk, STANDING, UNCHARGED);
         assert_answer(rt, &mut desk, OTHER_UPLOAD, FILE_NAME_TAKEN);
-        drop(connection_of(desk));
+        connection_of(desk)
     }
 }
 
@@ -109,8 +109,22 @@ fn assert_version<S: Alter>(rt: &impl Abort, conn: &mut Connection<S>, told: Tol
     assert_number(rt, conn, VERSION, version);
 }
 
+/// Tables of version 1.
+#[derive(Clone, Copy)]
+struct FirstVersion;
+
+impl Trial for FirstVersion {
+    fn run<R: Abort + AllocGlobal, S: Alter + Drop>(
+        &self,
+        rt: &R,
+        conn: Connection<S>,
+    ) -> (Told, Connection<S>) {
+        (Told::Done, with_first_version(rt, conn))
+    }
+}
+
 #[test]
 fn the_first_version_is_migrated_or_not(rt: HostRuntime) {
-    let conn = with_first_version(&rt, reopened(&rt, new_files(&rt)));
-    assert_stops(&rt, &closed(conn), &Migration);
+    let files = done(&rt, new_files(&rt), &FirstVersion);
+    assert_stops(&rt, &files, &Migration);
 }

@@ -2,11 +2,11 @@
 //! made.
 use super::super::opening::SECOND_VERSION;
 use super::super::{
-    CHARGED, FILE, FROB, STANDING, VERSION, adopt, assert_adopted, assert_number, refused, run,
+    CHARGED, FILE, FROB, STANDING, VERSION, adopt, adopted, assert_number, refused, run,
 };
-use super::files::{File, Which, closed, new_files};
+use super::files::{File, Which, new_files};
 use super::openings::told_of;
-use super::{Told, Trial, assert_store_fault, files_after, reopened, stop_each};
+use super::{Told, Trial, assert_store_fault, done, files_after, stop_each};
 use index_rules::OpenFault;
 use index_tables::Unopened;
 use sqlite::{Alter, Connection, Files};
@@ -44,10 +44,10 @@ impl Trial for Adoption {
         rt: &R,
         conn: Connection<S>,
         _told: Told,
-    ) {
+    ) -> Connection<S> {
         let mut conn = conn;
         assert_number(rt, &mut conn, VERSION, 2);
-        assert_adopted(rt, conn, &[[STANDING, CHARGED]]);
+        adopted(rt, conn, &[[STANDING, CHARGED]])
     }
 }
 
@@ -93,10 +93,10 @@ impl Trial for Refusal {
         rt: &R,
         conn: Connection<S>,
         _told: Told,
-    ) {
+    ) -> Connection<S> {
         let mut conn = refused(rt, adopt(rt, conn), OpenFault::NotAnIndex);
         assert_number(rt, &mut conn, VERSION, 2);
-        drop(conn);
+        conn
     }
 }
 
@@ -108,8 +108,22 @@ fn with_other_tables<S: Alter>(rt: &impl Abort, conn: Connection<S>) -> Connecti
     conn
 }
 
+/// Tables that others made.
+#[derive(Clone, Copy)]
+struct OtherTables;
+
+impl Trial for OtherTables {
+    fn run<R: Abort + AllocGlobal, S: Alter + Drop>(
+        &self,
+        rt: &R,
+        conn: Connection<S>,
+    ) -> (Told, Connection<S>) {
+        (Told::Done, with_other_tables(rt, conn))
+    }
+}
+
 #[test]
 fn the_version_of_other_tables_is_read_or_not(rt: HostRuntime) {
-    let conn = with_other_tables(&rt, reopened(&rt, new_files(&rt)));
-    assert_unread(&rt, &closed(conn), &Refusal);
+    let files = done(&rt, new_files(&rt), &OtherTables);
+    assert_unread(&rt, &files, &Refusal);
 }
