@@ -36,4 +36,5 @@ pub mod RefusedLemmas
 pub mod AlikeLemmas
 pub mod AgreeLemmas
 pub mod WrongBytes
+pub mod WrongFound
 mod Words
