@@ -2,10 +2,9 @@
 ghost use Rattle.std.specs.Prelude.{◌≡◌, false, ℕ, Result, Err, None, Some, IfOk, IfErr, IfSome, IsSome, IsTrue, OnErr};
 ghost use Rattle.sqlite.specs.Closing.{IsCopied};
 ghost use Rattle.sqlite.specs.Files.{IsClosed, file_state, over_files};
-ghost use Rattle.sqlite.specs.Held.{AreDatabases, state};
+ghost use Rattle.sqlite.specs.Held.{state};
 ghost use Rattle.sqlite.specs.Recovery.{Image};
 ghost use Rattle.sqlite.specs.State.{HasCleanDisk};
-ghost use Rattle.sqlite.specs.Tree.{Trees};
 ghost use Rattle.sqlite.specs.WalFiles.{image_at};
 ghost use Rattle.sqlite.specs.WalReads.{AreClean};
 ghost use Rattle.sqlite_trees.specs.View.{IsClean};
@@ -31,6 +30,7 @@ use crate::end::End;
 use crate::failed_opening::FailedOpening;
 use crate::objects::other_object;
 use crate::opening::{first_token_digest, open, open_existing};
+use crate::worked_on::worked_on;
 use index_cache::Cache;
 use index_caching::CachesAnswers;
 use index_desk::Desk;
@@ -248,20 +248,6 @@ fn work_and_close<D: Disk + Drop, W: Work>(
             })
         }
     }
-}
-
-/// Returns the connection unchanged, for the proof: what a crash leaves of it can be opened again.
-pub fn worked_on<S: Alter>(conn: Connection<S>) -> Connection<S>
-    ensures same { result ≡ conn }
-    ensures numbered { HasCleanDisk (state S.Store result)
-        → IsTrue (S.Store.view result.store).is_numbered }
-    ensures databases { HasCleanDisk (state S.Store result)
-        → AreDatabases (S.Store.recovers result.store) }
-    ensures settled { (db : Trees) → IsTrue (state S.Store result).is_open
-        → (state S.Store result).may_leave db → db ≡ (state S.Store result).committed.trees }
-{
-    let _outside = conn.is_autocommit();
-    conn
 }
 
 /// Makes a new index in an empty database. If it fails, the database is as it was.

@@ -4,12 +4,13 @@ ghost use Rattle.sqlite.specs.WalFiles.{image_at};
 ghost use Rattle.index.specs.Ends.{is_fault_end};
 ghost use Rattle.index.specs.NewPairs.{ComesOfPlacedInit, IsToldOfMade, MakesBeside, MakesPlaced};
 
-use crate::database::{Closed, close, end_of_unused, let_go, worked_on};
+use crate::database::{Closed, close, end_of_unused, let_go};
 use crate::end::End;
 use crate::opening::{first_token_digest, open};
 use crate::pair::{end_of_failed, refused};
 use crate::path::is_missing;
 use crate::volume_file::{check_new, make_volume, volume_path};
+use crate::worked_on::worked_on;
 use index_args::Paths;
 use index_digest::Digest256;
 use index_sql_opening::is_blank;

@@ -14,14 +14,13 @@ ghost use Rattle.index.specs.Pairs.{AreKept, ComesOfGiven, ComesOfOther, EndsOnP
 ghost use Rattle.index.specs.Pairs.{EndsOverDisk, IsToldOver, RanOver, WorksOver, placed_side};
 ghost use Rattle.index.specs.Pairs.{result_over};
 
-use crate::database::{
-    self, Finished, Left, Unused, Work, close, end_of_unused, let_go, worked_on,
-};
+use crate::database::{self, Finished, Left, Unused, Work, close, end_of_unused, let_go};
 use crate::end::End;
 use crate::failed_opening::FailedOpening;
 use crate::job::ended_by;
 use crate::opening::open_existing;
 use crate::volume_file::{cause_of_disk, end_of_taking, end_of_volume, open_volume, volume_path};
+use crate::worked_on::worked_on;
 use index_args::Paths;
 use index_cache::Cache;
 use index_desk::Desk;

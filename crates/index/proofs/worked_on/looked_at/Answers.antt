@@ -1,4 +1,4 @@
-use Rattle.index.proofs.database.worked_on.Goals as goal
+use Rattle.index.proofs.worked_on.looked_at.Goals as goal
 
 pub returns-clause-settled : goal.returns-clause-settled
 returns-clause-settled g c = λ db is_open may. g.met.S.Store.settled c.args.conn.store db is_open may
