@@ -32,6 +32,12 @@ def is_of_unit_tests(one):
     return all("/test_unit_" in it.partition("::")[0] for it in one.caught)
 
 
+@pytest.mark.parametrize("others, needs_none", [([], True), (["tests/server/test_c.py::test_unit_d"], False)])
+def test_a_break_needs_no_program_if_none_of_its_tests_does(others, needs_none):
+    """Without one, a test that needs it would fail, as if it saw the break."""
+    assert is_of_unit_tests(Tried([], caught=("tests/server/test_unit_a.py::test_b", *others))) == needs_none
+
+
 @pytest.mark.parametrize("line, name", [
     ("FAILED a/test_b.py::test_c - assert [1] == [2]", "a/test_b.py::test_c"), ("FAILED a/test_b.py", "a/test_b.py"),
     ("FAILED a/test_b.py::test_c[d-  \\t e;--f] - End('[g]')", "a/test_b.py::test_c[d-  \\t e;--f]"),
