@@ -7,6 +7,7 @@ import re
 import pytest
 from support.model import rules as rules_of_model
 from support.places import TOP
+from support.planted import catches
 from support.programs import program_of
 
 rules = program_of(f"{TOP}/tools/try-rules")
@@ -100,11 +101,23 @@ def test_a_short_history_breaks_a_law_without_the_refusal(strike: strikes.Strike
 
 def test_a_right_without_a_law_fails_and_a_limit_with_a_test_does_not(capsys: pytest.CaptureFixture[str]) -> None:
     none = rules.Outcome([], {}, "some_test")
-    assert not rules.tell(DELETE, none, True) and rules.tell(TOO_LARGE, none, True)
-    assert not rules.tell(TOO_LARGE, none._replace(test=None), True)
+    assert not rules.tell(DELETE, none) and rules.tell(TOO_LARGE, none)
+    assert not rules.tell(TOO_LARGE, none._replace(test=None))
     # nor does a law whose proof fails, but whose words nothing breaks, guard a right
-    assert not rules.tell(DELETE, none._replace(failing=["law"]), True)
+    assert not rules.tell(DELETE, none._replace(failing=["law"]))
     assert "FAILED NotOwner of delete: guarded by no law; the test some_test" in capsys.readouterr().out
+
+
+@catches("tools/try-rules", "{} if failing == [] else ", "", case="failing0-0")
+@catches("tools/try-rules", "[*broken] if failing is None else failing", "failing or []", case="None-1")
+@pytest.mark.parametrize("failing, searches", [([], 0), (["law"], 1), (None, 1)])
+def test_a_history_is_looked_for_only_if_a_proof_fails(monkeypatch: pytest.MonkeyPatch, failing: list[str] | None,
+                                                       searches: int) -> None:
+    """Or if the prover was not asked."""
+    asked: list[object] = []
+    monkeypatch.setattr(rules, "histories", lambda *given: asked.append(given) or {"law": []})
+    found = rules.outcome(DELETE, TEXT, KNOWN, 1, failing)
+    assert (len(asked), found.guards(), found.test) == (searches, ["law"] * searches, "deletes_are_refused")
 
 
 def test_the_model_is_whole_again_behind_a_strike() -> None:
