@@ -120,6 +120,31 @@ def test_each_turn_is_the_next_one(monkeypatch):
         assert {int(it[name][0]) % of for it in seen if name in it} == {*range(of)}, name
 
 
+@catches("tests/run", ", memory // OF_A_PROOF)", ", 99)", case="16-24-4")
+@catches("tests/run", "max(1, min(", "max(0, min(", case="2-4-1")
+@pytest.mark.parametrize("processors, memory, count", [(4, 24, 4), (2, 24, 2), (16, 24, 4), (2, 4, 1)])
+def test_a_proof_goes_on_each_processor_if_memory_holds_it(monkeypatch, processors, memory, count):
+    gate = program_of(f"{TOP}/tests/run")
+    monkeypatch.setattr(gate.os, "sched_getaffinity", lambda _: range(processors))
+    monkeypatch.setattr(gate.os, "sysconf", {"SC_PAGE_SIZE": 4096, "SC_PHYS_PAGES": memory << 18}.get)
+    assert gate.whole(1)[0].parts[0].words == ["env", f"RT_JOBS={count}", "rt", "ci"]
+
+
+@catches("tests/run", "if not proofs.words:", "if False:", case="True-1-2-0")
+@catches("tests/run", "[proofs, *edits] if is_kept else ()", "()", case="True-1-2-0")
+@pytest.mark.parametrize("is_kept, stages, left_out, needs", [(True, 1, 2, 0), (False, 2, 0, 2)])
+def test_if_the_proofs_are_kept_all_tests_go_side_by_side(monkeypatch, is_kept, stages, left_out, needs):
+    gate = program_of(f"{TOP}/tests/run")
+    monkeypatch.setattr(gate.proved, "is_kept", lambda words, of: True)
+    monkeypatch.setattr(gate, "has_changed", lambda *given: False)
+    planned = gate.whole(6, is_kept)
+    parts = {it.name: it for it in gate.parts_of(planned)}
+    assert len(planned) == stages and len([it for it in planned[-1].beside if not it.words]) == left_out
+    assert bool(parts["rt-ci"].words) != is_kept
+    tests = [it for it in parts.values() if "pytest" in it.words]
+    assert len([it for it in tests if "--needs" in it.words]) == needs and "6" in parts["tests"].words
+
+
 @catches("tests/run", '"-c", f"safe.directory={TOP}", "-C"', '"-C"')
 @pytest.mark.skipif(os.geteuid() != 0, reason="only root may give a repository to another user")
 def test_the_turns_go_on_in_the_repository_of_another_user(monkeypatch, tmp_path):
@@ -224,7 +249,7 @@ def part(name):
     talks = "trap 'seq 100000; exit 1' INT; echo begun $0; sleep 60 >&- 2>&- & wait"
     return gate.Part(name, ["sh", "-c", talks, name], "")
 gate.prepare = lambda given: None
-def whole(jobs):
+def whole(jobs, is_kept):
     for number in signal.SIGINT, signal.SIGTERM:
         signal.siginterrupt(number, comes == "at once")
     return [gate.Stage([part("one"), part("two")], [part("beside")])]
