@@ -62,6 +62,7 @@ def test_an_address_that_people_can_t_use_is_refused(site, url):
     assert_ends(site.by.run("site", site.folder, "--url", url), 2, "--url")
 
 
+@catches("indexctl/commands/site.py", "descriptions.remove_others(used)", "pass")
 @catches("indexctl/site/folder.py", "return sum(changed) + remove_others(inner, own)", "return sum(changed)")
 @catches("indexctl/site/folder.py", "put_whole(path, [text], is_synced=False)", 'open(path, "a").write(text)',
          also=["test_a_run_that_is_killed_leaves_whole_pages",
@@ -74,12 +75,14 @@ def test_a_page_that_is_gone_goes_and_one_that_changed_is_written(site, folder):
     assert "projects/passing.html" in texts_of(made)
     put(f"{made}/projects/moss.html", "spoilt")
     put(f"{made}/projects/passing.html.part", "left by a run that was killed")
+    put(f"{made}/.descriptions/{'0' * 64}.html", "of a wheel that is deleted")
     site.index.request(do="relinquish", name="passing")
     ended = site.by.run("site", made)
     # both lists, the page of moss, and the two that went
     assert_ends(ended, 0, f"{COUNT} projects, 5 pages changed")
     texts = texts_of(made)
     assert not [it for it in texts if "passing" in it or it.endswith(".part")] and "spoilt" not in str(texts)
+    assert f"{'0' * 64}.html" not in os.listdir(f"{made}/.descriptions")
 
 
 def test_a_run_that_is_killed_leaves_whole_pages(site, folder, looked):

@@ -9,7 +9,7 @@ import tracemalloc
 from contextlib import closing
 
 import pytest
-from support.library import carried, volume
+from support.library import carried, volume, volume_copies
 from support.library import ends as library_ends
 from support.places import TOP
 from support.planted import catches
@@ -263,3 +263,16 @@ def test_places_are_those_of_the_helper(pair):
 def test_the_tables_of_the_helper_are_those_of_the_index():
     with open(f"{TOP}/crates/index_sql_schema/src/table_texts.rt", encoding="utf-8") as kept:
         assert re.findall(r'"(CREATE TABLE [^"]+)"', kept.read()) == TABLES
+
+
+@catches("server/lib/package_index/volume_copies.py", "except (FileNotFoundError, ValueError, KeyError, TypeError):",
+         "except (FileNotFoundError, ValueError, TypeError):", case='{"inode": 7}')
+@catches("server/lib/package_index/volume_copies.py", "except (FileNotFoundError, ValueError, KeyError, TypeError):",
+         "except (FileNotFoundError, ValueError, KeyError):", case="[7]")
+@pytest.mark.parametrize("text", ["", "{", "[7]", "7", '{"inode": 7}', '{"inode": "x", "read": 1}'], ids=str)
+def test_a_note_of_a_copy_that_can_not_be_read_is_none(tmp_path, text):
+    """All of the copy is read again then."""
+    copy = f"{tmp_path}/copy.volume"
+    assert volume_copies.note_of(copy) is None
+    (tmp_path / f"copy.volume{volume_copies.NOTE}").write_text(text)
+    assert volume_copies.note_of(copy) is None

@@ -1,8 +1,11 @@
 """Which units are off, and which of those that failed are well again."""
 import os
+from pathlib import Path
 
 import pytest
 from support.library import watched
+from support.places import SERVER
+from support.planted import catches
 
 NOW = 2_000_000_000.0
 
@@ -26,6 +29,14 @@ def test_what_is_enabled_and_was_stopped_is_told(monkeypatch, enabled, active, t
     assert [*watched.off(())] == told * ["index-health.timer is enabled and does not run: systemctl start "
                                          "index-health.timer"]
     assert [*watched.off(["index-health.timer"])] == []
+
+
+@catches("server/lib/package_index/watched.py", '"index-certificate.timer", ', "")
+def test_each_timer_that_starts_with_the_machine_is_watched():
+    """But for that of the alarms, which nothing would tell of, and those of addresses."""
+    timers = [it for it in Path(f"{SERVER}/systemd").glob("*.timer") if "WantedBy=timers.target" in it.read_text()]
+    names = {it.name for it in timers if "@" not in it.name}
+    assert {it for it in watched.TIMERS if it.endswith(".timer")} == names - {"index-alarms.timer"}
 
 
 def told_of(folder, *names):
