@@ -172,6 +172,21 @@ def test_no_name_of_an_index_leads_out_of_the_folder(folder):
         "owners.csv", "frob/index.json", f"frob/{plain}")}
 
 
+@catches("indexctl/moving/exports.py", "if reply.status != 200:", "if False:")
+def test_a_file_that_went_after_its_page_is_left(folder):
+    def answer(method, path, *_):
+        if path.startswith("/names/"):
+            return standing_of(path)
+        if path == "/simple/frob/":
+            rows = [{"filename": "frob-1.0.tar.gz", "hashes": {"sha256": sha256(b"gone")}, "url": "x"}]
+            return 200, JSON_PAGE, json.dumps({"files": rows}).encode()
+        return 404, "x/y", b"gone"
+    with scripted(answer) as server:
+        assert_ends(Control(folder, server.url).run("export", f"{folder}/out", "frob"), 1, "0 files written",
+                    "left: frob-1.0.tar.gz: the index answers 404: it was deleted meanwhile")
+    assert {*files_of(f"{folder}/out")} == {"owners.csv", "frob/index.json"}
+
+
 @catches("indexctl/commands/moving.py",
          '''raise Stop(WRONG, f"{args.folder} can't be made: {end.strerror}") from end''', "raise")
 def test_a_folder_that_can_t_be_written_is_told(moved_out, folder):
