@@ -53,6 +53,11 @@ def test_a_program_is_short_and_can_be_read_from_the_top(name):
 # a program, its words with a file and a folder in them, and the status and what the last line says
 MISTAKES = [
     ("index-alarm", ["--none"], 2, "sent."),
+    ("index-cluster", [], 2, "and 2 if the command line is wrong."),
+    ("index-take", ["{file}", "{file}"], 2, "line is wrong."),
+    ("index-leave", ["{file}", "{file}"], 2, "is wrong."),
+    ("index-reseal", ["{file}"], 2, "and 2 if the command line is wrong."),
+    ("index-verify", [], 2, "command line is wrong."),
     ("index-backup", ["{folder}/none", "{folder}"], 1, "No such file or directory"),
     ("index-backup", ["{file}", "{file}"], 1, "Not a directory"),
     ("index-health", ["none"], 2, "none is not an address such as http://127.0.0.1:8080"),
@@ -82,6 +87,7 @@ MISTAKES = [
 
 
 @catches("server/lib/package_index/addresses.py", "if not is_well:", "if not word:")
+@catches("server/bin/index-cluster", "words_of(__doc__, 1, 2)", "words_of(__doc__, 0, 2)")
 @catches("server/bin/index-log", 'raise Refused(f"{command[0]}: {end.strerror}") from None', "raise")
 @pytest.mark.parametrize("name, words, status, said", MISTAKES)
 def test_a_mistake_is_answered_in_a_sentence(tmp_path, name, words, status, said):
