@@ -27,7 +27,6 @@ CAUGHT_BY = {
     "crashes_log_is_removed_before_an_opening": f"{CRASHES}::test_a_crash_leaves_what_was_answered[apply-0]",
     "crashes_writes_cut_short_are_trusted": f"{CRASHES}::test_each_change_is_synced_twice_before_it_is_told",
     "faults_failed_read_ends_the_server": f"{FAULTS}::test_a_read_that_fails_stops_its_request_alone",
-    "faults_first_version_is_told_as_other_tables": f"{FAULTS}::test_migration_has_every_row_or_is_told_as_store",
     "faults_interrupted_read_ends_the_input": f"{FAULTS}::test_apply_ends_where_its_input_or_output_fails[read]",
     "faults_interrupted_write_ends_the_output": f"{FAULTS}::test_apply_ends_where_its_input_or_output_fails[write]",
     "kills_init_removes_what_is_there": f"{KILLS}::test_init_leaves_nothing_or_an_index",
@@ -48,6 +47,8 @@ CAUGHT_BY = {
     "program_clock_that_fails_is_1970":
         f"{CLOCK}::test_a_clock_that_gives_no_moment_ends_serve_before_anything_is_done",
     "program_each_address_is_localhost": f"{ENDS}::test_serve_listens_where_it_is_asked_to_and_says_where",
+    "program_first_version_is_told_as_other_tables":
+        f"{CAUSES}::test_a_call_that_fails_on_a_database_of_version_1",
     "program_last_client_is_answered_first": ORDER,
     "program_mistake_is_printed_as_it_is": f"{CONTROLS}::test_a_mistake_is_printed_with_its_line_feeds_alone",
     "program_one_that_waits_is_accepted_before_a_message":
