@@ -170,17 +170,22 @@ def test_indexes_have_a_volume_at_each_second_turn_and_each_share_at_each_second
 
 
 @catches("tests/run", "side.join()", "pass")
-@catches("tests/run", "part.run(shows=False)", "part.run()")
+@catches("tests/run", "args=(False,)", "args=(True,)")
+@catches("tests/run", "side.start()", "side.run()")
 def test_a_stage_begins_when_all_of_the_one_before_have_ended(capfd, tmp_path):
     """The output of what goes beside others is shown behind theirs."""
     gate = program_of(f"{TOP}/tests/run")
-    first = [gate.Part("one", ["sh", "-c", f"while ! test -e {tmp_path}/said; do sleep 0.1; done; echo one"], "")]
-    beside = [gate.Part("beside", ["sh", "-c", f"echo beside; touch {tmp_path}/said; sleep 1; touch {tmp_path}/done"],
-                        "")]
-    then = [gate.Part("two", ["sh", "-c", f"test -e {tmp_path}/done && echo two"], "")]
-    parts = gate.run_all([gate.Stage(first, beside), gate.Stage(then, [])])
-    assert [(it.name, it.status) for it in parts] == [("one", 0), ("beside", 0), ("two", 0)]
-    assert capfd.readouterr().out == "one\nbeside\ntwo\n"
+
+    def part(name, awaited, then=":"):
+        waits = f"touch {tmp_path}/{name}; until test -e {tmp_path}/{awaited}; do sleep 0.1; done"
+        return gate.Part(name, ["timeout", "20", "sh", "-c", f"echo {name}; {waits}; {then}"], "")
+
+    stages = [gate.Stage([part("one", "beside")], [part("beside", "other", f"sleep 1; touch {tmp_path}/done"),
+                                                   part("other", "beside")]),
+              gate.Stage([gate.Part("two", ["sh", "-c", f"test -e {tmp_path}/done && echo two"], "")], [])]
+    names = ["one", "beside", "other", "two"]
+    assert [(it.name, it.status) for it in gate.run_all(stages)] == [(name, 0) for name in names]
+    assert capfd.readouterr().out.split() == names
 
 
 @catches("tests/conftest.py", '== (config.option.needs == "program")', "")
