@@ -130,6 +130,8 @@ def test_one_that_was_off_serves_nothing_that_was_removed_meanwhile(both):
         two.nginx.__exit__()
         delete(one, FILES[1])
         accepted(one.nginx.request(do="ban_file", file=FILES[2]))
+        # before a file goes it stands in the list
+        assert one.soon_lacks(FILES[1], FILES[2])[0]
         with two.nginx:
             assert two.has(FILES[1]) and two.has(FILES[2])
             with two.following(one):
