@@ -197,6 +197,7 @@ while [ ! -e "$GO" ]; do sleep 0.05; done
 
 
 @catches("server/bin/index-punch", "        stack.enter_context(alone(os.path.dirname(db), AT_WORK, PATIENCE))\n", "")
+@pytest.mark.timeout(60)
 def test_a_ban_during_a_backup_waits_for_it(program, pair, places, chance):
     setting = {"PATH": stand_ins(f"{places}/bin", cp=SLOW), "REACHED": f"{places}/reached", "GO": f"{places}/go",
                "INDEX": program}

@@ -99,6 +99,7 @@ def test_stopped_in_the_midst_of_its_copy_it_leaves_what_was_and_a_second_run_do
 
 @catches("server/bin/index-restore",
          'with alone(folder, AT_WORK if is_there(f"{db}{VOLUME}") else "index-restore"):', "if words.copy:")
+@pytest.mark.timeout(60)
 def test_of_two_at_once_the_second_is_refused_and_the_first_ends_well(restores):
     """The second begins when the first has copied and stops the index."""
     seconds, do = [], restores.manager.do

@@ -166,6 +166,7 @@ def with_hole(path):
 
 
 @catches("server/lib/package_index/carried.py", "found = data_from(source, at, end)", "found = at")
+@pytest.mark.timeout(60)
 @pytest.mark.parametrize("start", [0, 100_000])
 def test_holes_stay_holes(tmp_path, start):
     with_hole(tmp_path / "source")
