@@ -3,7 +3,7 @@ from pathlib import Path
 from types import SimpleNamespace
 
 import pytest
-from edits import Edit, changed_since, made_together, share_of
+from edits import MOST_IN_A_PART, Edit, changed_since, in_parts, made_together, share_of
 from support.needed import want_command
 from support.planted import catches
 from support.running import new_repository, write_below
@@ -40,6 +40,15 @@ def test_a_share_has_every_fourth_crate_and_those_that_changed(turn):
     shares = [[it.name for it in share_of(of_all, (count, 4))] for count in range(turn, turn + 4)]
     assert sorted(sum(shares, [])) == [it.name for it in crates] and max(map(len, shares)) == 3
     assert [it.name for it in share_of(of_all, (turn, 4), {"e", "f"})] == sorted({*shares[0], "e", "f"})
+
+
+@catches("tools/lib/edits.py", "-(-len(edits) // MOST_IN_A_PART)", "len(edits) // MOST_IN_A_PART + 1", case="40-2")
+@catches("tools/lib/edits.py", "edits[at::count]", "edits[at::2]", case="75-4")
+@pytest.mark.parametrize("edits, parts", [(1, 1), (40, 2), (41, 3), (75, 4)])
+def test_each_edit_of_a_crate_is_in_one_part(edits, parts):
+    made = in_parts([*range(edits)])
+    assert sorted(sum(made, [])) == [*range(edits)] and len(made) == parts
+    assert max(map(len, made)) <= MOST_IN_A_PART and min(map(len, made)) > 0
 
 
 @catches("tools/lib/edits.py", "return names if ended.returncode else", "return")

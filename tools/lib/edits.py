@@ -11,6 +11,8 @@ from texts import read
 # the head of an impl that is of no trait, and of a function, in a file that `rt fmt` laid out
 IMPL = re.compile(r"impl\b(?:<.*?>)? (\w+)(?:<.*>)? \{$")
 FUNCTION = re.compile(r"( {4})?(?:pub(?:\(\w+\))? )?(?:const )?fn (\w+)")
+# a check proves one edit after the other, in some 7 seconds each in the dearest crate, beside half a minute of its own
+MOST_IN_A_PART = 20
 
 
 # the function that is to be asked for, and the changed files by their paths
@@ -233,6 +235,13 @@ def share_of(edits: dict[Any, list[Edit]], share: tuple[int, int],
     of = min(share[1], len(edits)) or 1
     return {crate: its for at, (crate, its) in enumerate(edits.items())
             if crate.name in whole or at % of == (share[0] - 1) % of}
+
+
+def in_parts(edits: list[Edit]) -> list[list[Edit]]:
+    """Returns a crate's edits in parts, each of which one check tries: it tries one after the other, and each part goes
+    beside the others."""
+    count = -(-len(edits) // MOST_IN_A_PART)
+    return [edits[at::count] for at in range(count)]
 
 
 def changed_since(top: str, commit: str, names: Collection[str]) -> Collection[str]:
