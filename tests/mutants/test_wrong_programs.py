@@ -1,15 +1,16 @@
 """Wrong programs that no clause refuses: each is built, and caught by the test that is named beside it.
 
-With `--build`, or by turns with `--share`, the programs are built, some minutes each, in --kept-programs; else only
+With `--build`, or by turns with `--share`, the programs are built, some minutes each, and kept in tests/out; else only
 each edit is made in memory. With `--prove` the crates that an edit changes are proved with it."""
 import os
-from types import SimpleNamespace
 
 import pytest
+from support import wrong_programs
 from support.breaks import has_test
 from support.inner_runs import run_tests
 from support.places import TOP
-from support.wrong_programs import edits
+from support.planted import catches
+from support.wrong_programs import edits, kept_folder
 from unproved import NotBuilt
 
 EDITS = edits()
@@ -99,24 +100,25 @@ def test_can_be_made(name):
     assert EDITS[name].texts()
 
 
-def shared_folder_of(config, factory):
-    """A folder for what is built, which is the same for all workers of a run: none compiles what another one has."""
-    own = factory.getbasetemp()
-    return (own.parent if hasattr(config, "workerinput") else own) / "programs"
-
-
-def test_workers_keep_what_they_build_in_one_folder(tmp_path):
-    workers = [SimpleNamespace(getbasetemp=lambda name=name: tmp_path / name) for name in ("gw0", "gw1")]
-    assert {shared_folder_of(SimpleNamespace(workerinput={}), it) for it in workers} == {tmp_path / "programs"}
-    assert shared_folder_of(SimpleNamespace(), workers[0]) == tmp_path / "gw0/programs"
+@catches("tests/support/wrong_programs.py", "PROGRAMS / sum_of(MADE_OF)", 'PROGRAMS / "one"')
+@catches("tests/support/wrong_programs.py", "{*PROGRAMS.iterdir()} - {own}", "{*PROGRAMS.iterdir()}")
+@catches("tests/support/wrong_programs.py", "{*PROGRAMS.iterdir()} - {own}", "()")
+def test_what_was_built_of_the_same_crates_alone_is_kept(monkeypatch, tmp_path):
+    """All workers of a run have one folder for it, and so have later runs."""
+    monkeypatch.setattr(wrong_programs, "PROGRAMS", tmp_path / "programs")
+    for sum_of_crates, there in (("one", []), ("one", ["built"]), ("two", []), ("one", [])):
+        monkeypatch.setattr(wrong_programs, "sum_of", lambda places, its=sum_of_crates: its)
+        folder = kept_folder()
+        assert sorted(os.listdir(folder)) == there
+        open(f"{folder}/built", "w").close()
 
 
 @pytest.fixture(scope="session")
-def wrong_program(pytestconfig, tmp_path_factory):
+def wrong_program():
     """Builds a wrong program, once, and returns its path."""
+    kept = kept_folder()
+
     def build(name):
-        kept = os.path.abspath(pytestconfig.option.kept_programs or shared_folder_of(pytestconfig, tmp_path_factory))
-        os.makedirs(kept, exist_ok=True)
         program = f"{kept}/{name}"
         if not os.path.exists(program):
             EDITS[name].build(program, f"{kept}/parts")

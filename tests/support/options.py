@@ -60,7 +60,6 @@ def add_options(parser) -> None:
                     "not given")
     group.addoption("--alter", metavar="'PATTERN => TEXT'", help="for a break: pages are altered on their way from the "
                     "index")
-    group.addoption("--kept-programs", metavar="FOLDER", help="where wrong programs are kept that were built")
     group.addoption("--two-machines", action="store_true", help="also cut the power and the cable of two virtual "
                     "machines: some minutes each")
     group.addoption("--walks", action="store_true", help="also stop `user leave` and `replay` at each step, by each "
