@@ -1,5 +1,5 @@
 //! The places of the bytes of files in a database, for books that have a volume.
-ghost use Rattle.std.specs.Prelude.{◌≡◌, IfOk, IfSome, OnOk, is_ok, length, option_map};
+ghost use Rattle.std.specs.Prelude.{◌≡◌, IfOk, IfSome, IsSome, OnOk, is_ok, length, option_map};
 ghost use Rattle.std.specs.FinMap.{get};
 ghost use Rattle.sqlite.specs.Held.{state};
 ghost use Rattle.sqlite.specs.State.{HasCleanDisk};
@@ -9,11 +9,11 @@ ghost use Rattle.index_sql_reads.specs.ConnectionTables.{tables_of};
 ghost use Rattle.index_sql_reads.specs.Sealed.{IsDeclared, digest_in};
 ghost use Rattle.index_sql_schema.specs.Looks.{IsIndexConnection, QueriesOnly};
 ghost use Rattle.index_sql_schema.specs.Reasons.{FailsForReason};
-ghost use Rattle.index_volume.specs.Places.{place_end, place_length};
+ghost use Rattle.index_volume.specs.Places.{LiesBelow, place_end, place_length};
 ghost use Rattle.index_volume_books.specs.Last.{IsDigestOf, IsLast};
 ghost use Rattle.index_tables.specs.BooksState.{IsHonest, Leaves};
 ghost use Rattle.index_tables.specs.LooksUp.{SqlLooks};
-ghost use Rattle.index_tables.specs.Places.{IsOpenedIfOk, is_later};
+ghost use Rattle.index_tables.specs.Places.{IsOpenedIfOk, LastForReason, greatest_number, is_later};
 
 use crate::books::{SqlBooks, fails_by_store, next_count};
 use crate::version::Version3;
@@ -58,6 +58,7 @@ impl<S: Alter> Ends for SqlBooks<S, Version3> {
             (fails_by_store result) }
         ensures works { OnOk result ((T : Tables) → Leaves 3 (state S.Store self.new.conn) T
             → IsHonest 3 (state S.Store self.new.conn)) }
+        ensures reason { LastForReason S.Store self.old.conn self.new.conn result }
     {
         expose_index(&self.conn);
         let last = find_last(alloc, &mut self.conn);
@@ -107,6 +108,7 @@ fn find_last<S: Alter>(
         → IfOk result (IsLast (tables_of S.Store conn.old)) }
     ensures looks { QueriesOnly S.Store conn.old conn.new (is_ok result) }
     ensures opened { IsOpenedIfOk S.Store conn.new result }
+    ensures reason { LastForReason S.Store conn.old conn.new result }
 {
     let mut last = LastPlace {
         last: None,
@@ -143,6 +145,7 @@ fn file_of(place: LastPlace) -> Option<FileName>
 fn end_of(stored: &[u8]) -> Option<usize>
     ensures size { IfSome result (λ _. length stored.now ≡ place_length) }
     ensures end { IfSome result (λ end. end ≡ place_end stored.now) }
+    ensures some { LiesBelow greatest_number stored.now → IsSome result }
 {
     let place = read_place(stored)?;
     place.at.checked_add(place.size)
@@ -159,12 +162,11 @@ fn is_later(last: &Option<(FileName, usize)>, end: usize) -> bool
 }
 
 impl Taker<(FileName, Bytes)> for LastPlace {
-    ghost use Rattle.std.specs.Prelude.{⊤};
-    ghost use Rattle.index_tables.specs.Places.{TakesPlace};
+    ghost use Rattle.index_tables.specs.Places.{StopsAtPlace, TakesPlace};
 
     ghost takes = { λ before row after. TakesPlace before.last row after.last };
 
-    ghost stops = { λ before row after. ⊤ };
+    ghost stops = { λ before row after. StopsAtPlace row after.why };
 
     fn take(&mut self, row: &(FileName, Bytes)) -> bool {
         let Some(end) = end_of(row.1.as_slice()) else {

@@ -1,6 +1,7 @@
 use Rattle.index_tables.proofs.Words.{IfOk, subst, tables_of, looks_kept, IsLast, BooksState}
 use Rattle.index_tables.proofs.KeptLemmas.{version_kept}
 use Rattle.index_tables.proofs.PlaceLemmas.{works_if_open}
+use Rattle.index_tables.specs.Places.{LastForReason}
 use Rattle.index_tables.proofs.places.SqlBooksVersion3Ends.last_file.Goals as goal
 
 pub returns-clause-found : goal.returns-clause-found
@@ -15,3 +16,8 @@ returns-clause-works g c =
     let looks = c.find_last-last.ensures.looks in
     works_if_open 3 g.S.Store new c.find_last-last.result (looks_kept g.S.Store old new _ c.expose_index.ensures looks)
     (version_kept 3 g.S.Store old new _ c.self.invariant looks) c.find_last-last.ensures.opened
+
+pub returns-clause-reason : goal.returns-clause-reason
+returns-clause-reason g c =
+    subst (λ (b : BooksState _). LastForReason g.S.Store b.conn c.find_last-last.new.conn c.find_last-last.result) c.self.view_is
+    c.find_last-last.ensures.reason
