@@ -25,13 +25,13 @@ ghost use Rattle.index.specs.Runs.{Created, CreatedInLog, InitEndsOnFiles, RunEn
 ghost use Rattle.index.specs.Runs.{CrashLeavesDatabase, IsMadeNew};
 ghost use Rattle.index.specs.Tasks.{Task, Works};
 
+use crate::at_desk::run_at_desk;
 use crate::cause::{Cause, cause_of_calls};
 use crate::end::End;
 use crate::failed_opening::FailedOpening;
 use crate::objects::other_object;
 use crate::opening::{first_token_digest, open, open_existing};
 use crate::worked_on::worked_on;
-use index_cache::Cache;
 use index_caching::CachesAnswers;
 use index_desk::Desk;
 use index_digest::Digest256;
@@ -287,9 +287,8 @@ fn work_in<S: Alter + Drop, W: Work>(
 {
     match SqlBooks::adopt(rt.alloc(), conn) {
         Ok(books) => {
-            let mut desk = Desk::new(Cache::new(rt.alloc(), books, work.keep_recent()));
-            let end = work.run(rt, &mut desk);
-            Ok((desk.into_books().into_books().into_connection(), end))
+            let (books, end) = run_at_desk(rt, books, work);
+            Ok((books.into_connection(), end))
         }
         Err(left) => Err(left),
     }

@@ -15,12 +15,12 @@ ghost use Rattle.index.specs.Jobs.{IsStatusOf, IsStatusOfCheck, IsStatusOfInit};
 ghost use Rattle.index.specs.Pairs.{ComesByVolume, MakesByVolume, on_pair};
 ghost use Rattle.index.specs.Tasks.{CountWrong, Does, answer_sockets};
 
+use crate::at_desk::run_at_desk;
 use crate::database::{self, Work};
 use crate::end::End;
 use crate::serving::serving_by;
 use crate::{new_pair, pair};
 use index_args::{Paths, ServeArgs};
-use index_cache::Cache;
 use index_caching::CachesAnswers;
 use index_cli::apply_lines;
 use index_desk::Desk;
@@ -218,8 +218,8 @@ fn work_in_memory<W: Work>(rt: &HostRuntime, work: &mut W) -> Result<Result<u64,
     ensures fault { IfErr result (λ fault. fault ≡ OpenFault.OutOfMemory) }
 {
     let books = PlainBooks::new(rt.alloc(), b"office", Digest256::of(b"office"))?;
-    let mut desk = Desk::new(Cache::new(rt.alloc(), books, work.keep_recent()));
-    Ok(work.run(rt, &mut desk))
+    let (_books, end) = run_at_desk(rt, books, work);
+    Ok(end)
 }
 
 /// The work of `apply`: the lines of a source are answered on a sink.

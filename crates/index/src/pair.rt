@@ -14,6 +14,7 @@ ghost use Rattle.index.specs.Pairs.{AreKept, ComesOfGiven, ComesOfOther, EndsOnP
 ghost use Rattle.index.specs.Pairs.{EndsOverDisk, IsToldOver, RanOver, WorksOver, placed_side};
 ghost use Rattle.index.specs.Pairs.{result_over};
 
+use crate::at_desk::run_at_desk;
 use crate::database::{self, Finished, Left, Unused, Work, close, end_of_unused, let_go};
 use crate::end::End;
 use crate::failed_opening::FailedOpening;
@@ -22,8 +23,6 @@ use crate::opening::open_existing;
 use crate::volume_file::{cause_of_disk, end_of_taking, end_of_volume, open_volume, volume_path};
 use crate::worked_on::worked_on;
 use index_args::Paths;
-use index_cache::Cache;
-use index_desk::Desk;
 use index_rules::OpenFault;
 use index_tables::Unopened;
 use index_tables::books::SqlBooks;
@@ -248,9 +247,8 @@ fn run_over<S: Alter + Drop, E: Disk + Drop, W: Work>(
     ensures kept { AreKept S.Store E.Disk result.0 result.1 }
     ensures honest { IsWorking (state S.Store result.0) → IsHonest 3 (state S.Store result.0) }
 {
-    let mut desk = Desk::new(Cache::new(rt.alloc(), books, work.keep_recent()));
-    let end = work.run(rt, &mut desk);
-    let (books, disk) = desk.into_books().into_books().into_parts();
+    let (books, end) = run_at_desk(rt, books, work);
+    let (books, disk) = books.into_parts();
     (books.into_connection(), disk, end)
 }
 

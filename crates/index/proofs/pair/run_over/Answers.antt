@@ -4,33 +4,32 @@ use Rattle.index.proofs.pair.run_over.Goals as goal
 
 pub returns-clause-worked : goal.returns-clause-worked
 returns-clause-worked g c =
-    let task = g.W.Work.task c.args.work.now c.run-end.new.self in
-    let first = c.new-desk.result.books in
-    let last = c.run-end.new.desk.books in
-    let begun : first ≡ c.args.books = search rules in
+    let task = g.W.Work.task c.args.work.now c.run_at_desk-books.new.work in
+    let first = c.args.books in
+    let last = c.run_at_desk-books.result.0 in
+    let end = c.run_at_desk-books.result.1 in
+    let it = c.run_at_desk-books.ensures in
     let parts : c.into_parts-books.result ≡ (last.books, last.disk) = search rules in
-    let worked : WorksOver task c.run-end.result (placed_side g.S.Store g.E.Disk first.books.conn first.disk)
+    let worked : WorksOver task end (placed_side g.S.Store g.E.Disk first.books.conn first.disk)
     (placed_side g.S.Store g.E.Disk last.books.conn last.disk) = record {
-      done = c.run-end.ensures.works.done;
-      ends = c.run-end.ensures.works.ends;
-      answered = c.run-end.ensures.works.answered;
-      went = c.run-end.ensures.works.went;
-      honest = c.run-end.ensures.honest;
-      clean = c.run-end.ensures.clean;
+      done = it.works.done;
+      ends = it.works.ends;
+      answered = it.works.answered;
+      went = it.works.went;
+      honest = it.honest;
+      clean = it.clean;
     } in
-    let from = subst (λ b. WorksOver task c.run-end.result (placed_side g.S.Store g.E.Disk b.books.conn b.disk)
-    (placed_side g.S.Store g.E.Disk last.books.conn last.disk)) begun worked in
-    let to = subst (λ p. WorksOver task c.run-end.result (placed_side g.S.Store g.E.Disk c.args.books.books.conn c.args.books.disk)
-    (placed_side g.S.Store g.E.Disk p.0.conn p.1)) (sym parts) from in
     let given = c.into_parts-books.result in
-    worked_on g.S.Store g.E.Disk task c.run-end.result c.args.books.books.conn given.0.conn c.into_connection.result c.args.books.disk
-    given.1 c.into_connection.ensures.same to
+    let to = subst (λ p. WorksOver task end (placed_side g.S.Store g.E.Disk first.books.conn first.disk)
+    (placed_side g.S.Store g.E.Disk p.0.conn p.1)) (sym parts) worked in
+    worked_on g.S.Store g.E.Disk task end first.books.conn given.0.conn c.into_connection.result first.disk given.1
+    c.into_connection.ensures.same to
 
 pub returns-clause-kept : goal.returns-clause-kept
 returns-clause-kept g c =
     let parts = c.into_parts-books in
     kept_on g.S.Store g.E.Disk parts.result.0.conn c.into_connection.result parts.result.1 c.into_connection.ensures.same (record {
-      end_at = c.into_books-2.result.end;
+      end_at = c.run_at_desk-books.result.0.end;
       placed = parts.ensures.placed;
       kept = parts.ensures.kept;
     })
