@@ -1,10 +1,13 @@
 """Wrong bodies and their twins, as tools/try-edits makes them."""
+import re
 from pathlib import Path
 from types import SimpleNamespace
 
 import pytest
-from edits import MOST_IN_A_PART, Edit, changed_since, in_parts, made_together, share_of
+from edits import (MOST_IN_A_PART, Edit, changed_since, in_parts, made_together, name_of_impl, share_of,
+                   written_in)
 from support.needed import want_command
+from support.places import TOP
 from support.planted import catches
 from support.running import new_repository, write_below
 
@@ -62,3 +65,23 @@ def test_the_crates_that_changed_are_told_and_all_where_git_can_not_tell(monkeyp
     assert changed_since(str(tmp_path), "12345678", "abc") == "abc"
     monkeypatch.setenv("PATH", "/none")
     assert changed_since(str(tmp_path), second, "abc") == "abc"
+
+
+@catches("tools/lib/edits.py", """f"Tuple{it[1].count(',') + 1} {it[1]}\"""", "it[1]", case="a-tuple")
+@catches("tools/lib/edits.py", " if it not in parameters)", ")", case="a-trait")
+@pytest.mark.parametrize("name, head", [
+    ("LastPlaceTakerTuple2FileNameBytes", "impl Taker<(FileName, Bytes)> for LastPlace {"),
+    ("SqlBooksVersion3Ends", "impl<S: Alter> Ends for SqlBooks<S, Version3> {"),
+    ("SqlBooks+S+Version2", "impl<S: Alter> SqlBooks<S, Version2> {"), (None, "impl<S: Alter> Other<S> {")],
+    ids=["a-tuple", "a-trait", "a-type", "another"])
+def test_an_impl_has_the_name_that_the_prover_tells(name, head):
+    assert name_of_impl(head, ["SqlBooks"]) == name
+
+
+def test_each_wrong_body_is_of_a_function_that_the_prover_tells(looked):
+    """One by another name is taken without its body, so that it is refused whatever was changed."""
+    for path in Path(TOP).glob("crates/*/wrong-bodies/*.edit"):
+        name, file = re.search(r"^fn: (\S+)\nfile: src/(\S+)$", path.read_text(), re.M).groups()
+        names = [it.replace(".", "::") for it, _ in written_in(file, (path.parents[1] / "src" / file).read_text())]
+        alike = [it for it in names if it.rpartition("::")[2] == name.rpartition("::")[2]]
+        looked(name in alike or not alike, path.name, name, alike)

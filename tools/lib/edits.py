@@ -166,8 +166,10 @@ def indent_of(head: str) -> str:
 
 
 def words_of(text: str) -> list[str]:
-    """Returns the names in the text of a type, without lifetimes and the modules of paths."""
-    return re.findall(r"\w+(?!\w|::)", re.sub(r"'\w+", "", text))
+    """Returns the names in the text of a type, without lifetimes and the modules of paths. Above those of a tuple
+    stands how many it has."""
+    text = re.sub(r"\(([^()]+)\)", lambda it: f"Tuple{it[1].count(',') + 1} {it[1]}", re.sub(r"'\w+", "", text))
+    return re.findall(r"\w+(?!\w|::)", text)
 
 
 def name_of_impl(head: str, types: Collection[str]) -> str | None:
@@ -178,8 +180,7 @@ def name_of_impl(head: str, types: Collection[str]) -> str | None:
     if not found:
         return None
     parameters = {words_of(it)[0] for it in (found[1] or "").split(",") if words_of(it)}
-    trait, names = found[2], words_of(found[3])
-    owner, *given = [f"Tuple{len(names)}", *names] if found[3].startswith("(") else names
+    trait, (owner, *given) = found[2], words_of(found[3])
     if trait and trait != "Drop":
         return "".join(it[0].upper() + it[1:] for it in [owner, *given, *words_of(trait)] if it not in parameters)
     if owner not in types:
